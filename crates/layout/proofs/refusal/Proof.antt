@@ -1,0 +1,23 @@
+-- `layout::refusal` meets its contract, by the cases of the answer.
+-- Assumes nothing.
+use borrow.Author.Needs.{needs}
+use Rattle.layout.specs.Answer.{numberOf}
+use Rattle.layout.proofs.refusal.Statement.{statement}
+use Rattle.layout.proofs.refusal.Tie as tie
+
+enum-told : tie.Need-enum-told
+enum-told c = search needs
+
+enum-known-opened : tie.Need-enum-known-opened
+enum-known-opened c = search needs
+
+returns : tie.Need-returns
+unfolding numberOf
+returns c = search needs
+
+returns-2 : tie.Need-returns-2
+unfolding numberOf
+returns-2 c = search needs
+
+pub refusal-spec : {M : Type 1} → statement M
+refusal-spec = tie.close (tie.spec enum-told enum-known-opened returns returns-2)

@@ -1,0 +1,107 @@
+// Where a volume lies in its host: the layout that opening gives, and the rules that a host's size
+// and a data area keep. Assumes nothing; no function has a `requires`.
+ghost use mathlib.Core.Path.{_≡_};
+ghost use Rattle.layout.specs.Answer.{numberOf};
+ghost use Rattle.layout.specs.Rules.{hostSizeRule, startRule, endRule, dataAreaRule};
+
+// The kinds of a volume, as a layout has them.
+pub const STANDARD: u64 = 0;
+
+pub const HIDDEN: u64 = 1;
+
+// A sector, and what the headers take at either end of the host.
+pub const SECTOR_SIZE: u64 = 512;
+
+pub const HEADERS_SIZE: u64 = 131_072;
+
+// The smallest host has one sector between the headers; the largest is 1 PB.
+pub const MIN_HOST_SIZE: u64 = 262_656;
+
+pub const MAX_HOST_SIZE: u64 = 1_125_899_906_842_624;
+
+// A volume's place in its host, as its header and the host's size tell it. Document 01's names
+// stand behind those that differ. A caller may make one up: nothing is assumed of the numbers.
+pub struct Layout {
+    pub host_size: u64, // S
+    pub kind: u64, // 0 standard, 1 hidden
+    pub magic: u64, // the mark: 0 VERA, 1 TRUE
+    pub version: u64,
+    pub min_program_version: u64, // the least program version
+    pub data_start: u64, // O
+    pub data_size: u64, // V
+    pub candidate: u64, // the index of the trial
+}
+
+// A layout, or document 01's refusal number.
+pub enum Opened {
+    Accepted(Layout),
+    Refused(u8),
+}
+
+// The refusal number of an answer, 0 where it is a layout.
+pub fn refusal(opened: Opened) -> u8
+    ensures { λ r. ⌜ r ≡ numberOf opened ⌝ }
+{
+    match opened {
+        Opened::Accepted(_) => 0,
+        Opened::Refused(number) => number,
+    }
+}
+
+// Whether a host may have this size.
+pub fn is_host_size(host_size: u64) -> bool
+    ensures { λ r. ⌜ r ≡ hostSizeRule «host_size» ⌝ }
+{
+    if host_size % SECTOR_SIZE != 0 {
+        return false;
+    }
+    if host_size < MIN_HOST_SIZE {
+        return false;
+    }
+    host_size <= MAX_HOST_SIZE
+}
+
+// Whether a volume of this kind may have this data area in a host of this size.
+pub fn is_data_area(kind: u64, host_size: u64, data_start: u64, data_size: u64) -> bool
+    ensures { λ r. ⌜ r ≡ dataAreaRule kind «host_size» «data_start» «data_size» ⌝ }
+{
+    if data_size < SECTOR_SIZE {
+        return false;
+    }
+    if data_size % SECTOR_SIZE != 0 {
+        return false;
+    }
+    if data_start % SECTOR_SIZE != 0 {
+        return false;
+    }
+    if !starts_after_headers(kind, data_start) {
+        return false;
+    }
+    ends_before_backups(host_size, data_start, data_size)
+}
+
+fn starts_after_headers(kind: u64, data_start: u64) -> bool
+    ensures { λ r. ⌜ r ≡ startRule kind «data_start» ⌝ }
+{
+    if kind == STANDARD {
+        return data_start == HEADERS_SIZE;
+    }
+    if kind == HIDDEN {
+        return HEADERS_SIZE <= data_start;
+    }
+    false
+}
+
+// A sum past 2^64 wraps to less than either number.
+fn ends_before_backups(host_size: u64, data_start: u64, data_size: u64) -> bool
+    ensures { λ r. ⌜ r ≡ endRule «host_size» «data_start» «data_size» ⌝ }
+{
+    if host_size < HEADERS_SIZE {
+        return false;
+    }
+    let end = std::num::wrapping_add_u64(data_start, data_size);
+    if end < data_start {
+        return false;
+    }
+    end <= host_size - HEADERS_SIZE
+}
