@@ -1,0 +1,83 @@
+-- `header::judge_with` meets its contract: no header by its length, its magic or its checksums, or judged by the first line it breaks.
+-- Assumes nothing.
+use mathlib.Core.Path.{_≡_, sym, _∙_, ap}
+use borrow.Author.Tests.{eq-eqb, ne-eqb, le-leb, lt-leb, not-true, not-false}
+use Rattle.header.specs.Header.{judgeBy, isHeaderBy, answer}
+use borrow.Author.Needs.{needs}
+use Rattle.header.proofs.judge_with.Statement.{statement}
+use Rattle.header.proofs.judge_with.Tie as tie
+
+returns : tie.Need-returns
+unfolding judgeBy isHeaderBy answer
+returns c = simp (ne-eqb _ _ (c .if1 .taken))
+
+magic-of-requires : tie.Need-magic-of-requires
+magic-of-requires c κs = search needs
+
+returns-2 : tie.Need-returns-2
+unfolding judgeBy isHeaderBy answer
+returns-2 c = simp (eq-eqb _ _ (c .before .before .if1 .left), ← c .before .magic-of .ensures, lt-leb _ _ (c .if2 .taken))
+
+checksums-match-requires : tie.Need-checksums-match-requires
+checksums-match-requires c κs = search needs
+
+returns-3 : tie.Need-returns-3
+unfolding judgeBy isHeaderBy answer
+returns-3 c =
+    simp (
+      eq-eqb _ _ (c .before .before .before .before .if1 .left),
+      ← c .before .before .before .magic-of .ensures,
+      le-leb _ _ (c .before .before .if2 .left),
+      sym (c .before .checksums-match .ensures) ∙ not-true _ (c .if3 .taken),
+    )
+
+read-fields-requires : tie.Need-read-fields-requires
+read-fields-requires c κs = search needs
+
+first-broken-requires : tie.Need-first-broken-requires
+first-broken-requires c κs = search needs
+
+returns-4 : tie.Need-returns-4
+unfolding judgeBy isHeaderBy answer
+returns-4 c =
+    simp (
+      eq-eqb _ _ (c .before .before .before .before .before .before .before .if1 .left),
+      ← c .before .before .before .before .before .before .magic-of .ensures,
+      le-leb _ _ (c .before .before .before .before .before .if2 .left),
+      sym (c .before .before .before .before .checksums-match .ensures) ∙ not-false _ (c .before .before .before .if3 .left),
+      ← c .before .before .read-fields .ensures,
+      ← c .before .first-broken .ensures,
+      ne-eqb _ _ (c .if4 .taken),
+    )
+
+layout-of-requires : tie.Need-layout-of-requires
+layout-of-requires c κs = search needs
+
+returns-5 : tie.Need-returns-5
+unfolding judgeBy isHeaderBy answer
+returns-5 c =
+    simp (
+      eq-eqb _ _ (c .before .before .before .before .before .before .before .before .if1 .left),
+      ← c .before .before .before .before .before .before .before .magic-of .ensures,
+      le-leb _ _ (c .before .before .before .before .before .before .if2 .left),
+      sym (c .before .before .before .before .before .checksums-match .ensures) ∙ not-false _ (c .before .before .before .before .if3 .left),
+      ← c .before .before .before .read-fields .ensures,
+      ← c .before .before .first-broken .ensures,
+      eq-eqb _ _ (c .before .if4 .left),
+      ← c .layout-of .ensures,
+    )
+
+pub judge-with-spec : {M : Type 1} → statement M
+judge-with-spec =
+    tie.close
+    (tie.spec
+    returns
+    magic-of-requires
+    returns-2
+    checksums-match-requires
+    returns-3
+    read-fields-requires
+    first-broken-requires
+    returns-4
+    layout-of-requires
+    returns-5)

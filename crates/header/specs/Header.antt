@@ -1,0 +1,128 @@
+-- The 512 header bytes (document 01): their fields, when they are a header, and the lines that an accepted header keeps.
+-- What the contracts of `header` cite, in document 01's order. Assumes nothing.
+use Prim.Native.Nat.{ℕ, _/_, _%_}
+use mathlib.Core.Bool.{Bool, true, _&&_, not, cond}
+use mathlib.Core.List.{List, [], _∷_}
+use lib.Dec.{leb, eqb}
+use lib.ListN.{length}
+use Rattle.numbers.specs.Numbers.{bigEndian, littleEndian}
+use Rattle.crc32.specs.Crc32.{crc32}
+use Rattle.layout.specs.Rules.{standard, hidden, dataAreaRule}
+use Rattle.layout.specs.declared.Layout.{Layout}
+use Rattle.layout.specs.declared.Opened.{Opened}
+use Rattle.layout.specs.declared.Opened.the-variants.{Accepted, Refused}
+use Rattle.header.specs.declared.Fields.{Fields}
+use Rattle.header.specs.Bytes.{part, sameBytes, allZero}
+
+-- a candidate's size
+abbrev pub headerBytes : ℕ
+headerBytes = 512
+
+-- the magic of VeraCrypt, "VERA" in ASCII, and its number in a layout
+abbrev pub veraMagic : List ℕ
+veraMagic = 86 ∷ 69 ∷ 82 ∷ 65 ∷ []
+
+abbrev pub vera : ℕ
+vera = 0
+
+-- the magic of TrueCrypt, "TRUE" in ASCII, and its number in a layout
+abbrev pub trueMagic : List ℕ
+trueMagic = 84 ∷ 82 ∷ 85 ∷ 69 ∷ []
+
+abbrev pub truecrypt : ℕ
+truecrypt = 1
+
+-- which magic (document 01's mark) bytes 64 to 67 spell: VERA, TRUE, or neither, which is 2
+unfoldable pub magicOf : List ℕ → ℕ
+magicOf h = cond (sameBytes (part 64 4 h) veraMagic) vera (cond (sameBytes (part 64 4 h) trueMagic) truecrypt 2)
+
+-- the numbers of the header; the min program version (document 01's least program version) alone is little-endian
+unfoldable pub fieldsOf : List ℕ → Fields
+fieldsOf h =
+    record {
+      version = bigEndian (part 68 2 h);
+      «min_program_version» = littleEndian (part 70 2 h);
+      «hidden_size» = bigEndian (part 92 8 h);
+      «data_size» = bigEndian (part 100 8 h);
+      «data_start» = bigEndian (part 108 8 h);
+      «encrypted_size» = bigEndian (part 116 8 h);
+      flags = bigEndian (part 124 4 h);
+      «sector_size» = bigEndian (part 128 4 h);
+    }
+
+-- a checksum of the keys, bytes 256 to 511, is the number at 72, and one of the fields, bytes 64 to 251, the number at 252
+unfoldable pub checksumsMatch : (List ℕ → ℕ) → List ℕ → Bool
+checksumsMatch checksum h =
+    eqb (checksum (part 256 256 h)) (bigEndian (part 72 4 h)) && eqb (checksum (part 64 188 h)) (bigEndian (part 252 4 h))
+
+-- the candidate is a header, by a checksum; only 512 bytes are
+unfoldable pub isHeaderBy : (List ℕ → ℕ) → List ℕ → Bool
+isHeaderBy checksum h = eqb (length h) headerBytes && leb (magicOf h) truecrypt && checksumsMatch checksum h
+
+-- line 5, the version: VERA 2 to 5, TRUE 4 or 5
+unfoldable pub versionRule : ℕ → ℕ → Bool
+versionRule magic version = leb version 5 && cond (eqb magic vera) (leb 2 version) (leb 4 version)
+
+-- line 6, reserved bits and bytes: flags bits 2 to 31 zero; for VERA also bytes 76 to 91 and 132 to 251
+unfoldable pub reservedRule : ℕ → ℕ → List ℕ → Bool
+reservedRule magic flags h = eqb (flags / 4) 0 && cond (eqb magic vera) (allZero (part 76 16 h) && allZero (part 132 120 h)) true
+
+-- line 7, neither a system volume nor one encrypted in place: flags bits 0 and 1 zero
+unfoldable pub flagsRule : ℕ → Bool
+flagsRule flags = eqb (flags % 4) 0
+
+-- line 8, the sector size Z is 512
+unfoldable pub sectorSizeRule : ℕ → Bool
+sectorSizeRule size = eqb size 512
+
+-- line 9, the hidden size H: 0 for a standard volume; for a hidden one not 0, and V
+unfoldable pub hiddenSizeRule : ℕ → ℕ → ℕ → Bool
+hiddenSizeRule kind hiddenSize size =
+    cond (eqb kind standard) (eqb hiddenSize 0) (eqb kind hidden && not (eqb hiddenSize 0) && eqb hiddenSize size)
+
+-- line 10, the data area, with the encrypted size E equal to V
+unfoldable pub areaRule : ℕ → ℕ → ℕ → ℕ → ℕ → Bool
+areaRule kind hostSize start size encryptedSize = eqb encryptedSize size && dataAreaRule kind hostSize start size
+
+-- one line: its number where it is broken, else what the later lines say
+abbrev pub line : ℕ → Bool → ℕ → ℕ
+line number kept later = cond kept later number
+
+-- the first line that a header breaks, 0 where it keeps them all: for a kind and a host size
+unfoldable pub firstBroken : ℕ → ℕ → ℕ → Fields → List ℕ → ℕ
+firstBroken kind hostSize magic f h =
+    line 5 (versionRule magic (f .version))
+    (line 6 (reservedRule magic (f .flags) h)
+    (line 7 (flagsRule (f .flags))
+    (line 8 (sectorSizeRule (f .«sector_size»))
+    (line 9 (hiddenSizeRule kind (f .«hidden_size») (f .«data_size»))
+    (line 10 (areaRule kind hostSize (f .«data_start») (f .«data_size») (f .«encrypted_size»)) 0)))))
+
+-- what an accepted candidate tells: the layout, with the candidate's index
+unfoldable pub layoutOf : ℕ → ℕ → ℕ → ℕ → Fields → Layout
+layoutOf kind hostSize index magic f =
+    record {
+      «host_size» = hostSize;
+      kind = kind;
+      magic = magic;
+      version = f .version;
+      «min_program_version» = f .«min_program_version»;
+      «data_start» = f .«data_start»;
+      «data_size» = f .«data_size»;
+      candidate = index;
+    }
+
+-- the refusal by a broken line's number, or the layout where that is 0
+unfoldable pub answer : ℕ → Layout → Opened
+answer number layout = cond (eqb number 0) (Accepted layout) (Refused number)
+
+-- the judgement of one candidate, by a checksum: 4 where it is no header, else by the first line that it breaks
+unfoldable pub judgeBy : (List ℕ → ℕ) → ℕ → ℕ → ℕ → List ℕ → Opened
+judgeBy checksum kind hostSize index h =
+    cond (isHeaderBy checksum h)
+    (answer (firstBroken kind hostSize (magicOf h) (fieldsOf h) h) (layoutOf kind hostSize index (magicOf h) (fieldsOf h)))
+    (Refused 4)
+
+-- document 01's judgement: by CRC-32
+unfoldable pub judge : ℕ → ℕ → ℕ → List ℕ → Opened
+judge = judgeBy crc32
