@@ -1,0 +1,3 @@
+pub mod LocationLaws
+pub mod OpenedLaws
+pub mod SearchLaws

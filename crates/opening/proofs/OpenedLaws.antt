@@ -1,0 +1,78 @@
+-- What an acceptance tells: the lengths are allowed, and the layout's candidate is one of them.
+-- Assumes nothing.
+use Prim.Native.Nat.{ℕ, suc, _+_, _*_, _≤_, _<_}
+use native.Mathlib.Omega.{arith}
+use mathlib.Core.Path.{_≡_, refl, ap}
+use mathlib.Core.Bool.{Bool, true, false, _&&_, cond}
+use mathlib.Core.List.{List, [], _∷_}
+use lib.Dec.{leb, eqb}
+use lib.ListN.{length}
+use borrow.Author.Tests.{leb-true, eqb-true}
+use Rattle.layout.specs.Rules.{hostSizeRule}
+use Rattle.layout.specs.declared.Layout.{Layout}
+use Rattle.layout.specs.declared.Opened.{Opened}
+use Rattle.layout.specs.declared.Opened.the-variants.{Accepted, Refused}
+use Rattle.layout.proofs.RuleLaws.{and-true-left, and-true-right}
+use Rattle.header.specs.Header.{headerBytes, judge}
+use Rattle.header.proofs.JudgeLaws.{refused-accepted, accepted-one, judge-candidate}
+use Rattle.opening.specs.Locations.{locationOf}
+use Rattle.opening.specs.Opening.{maxCandidates, lengthsRule, codesRule, candidateAt, judgements, firstRefusal, searchFrom, opened}
+
+module _ (candidates codes : List ℕ) (kept : lengthsRule candidates codes ≡ true) where
+  pub lengths-most : length codes ≤ maxCandidates
+  unfolding lengthsRule
+  lengths-most =
+      let some = leb 1 (length codes) in
+      let most = leb (length codes) maxCandidates in
+      leb-true (length codes) maxCandidates
+      (and-true-right some most (and-true-left (some && most) (eqb (length candidates) (length codes * headerBytes)) kept))
+
+  pub lengths-whole : length candidates ≡ length codes * headerBytes
+  unfolding lengthsRule
+  lengths-whole =
+      eqb-true (length candidates) (length codes * headerBytes)
+      (and-true-right (leb 1 (length codes) && leb (length codes) maxCandidates) (eqb (length candidates) (length codes * headerBytes)) kept)
+
+module _ (candidates : List ℕ) (hostSize : ℕ) (layout : Layout) where
+  -- one judgement decides, or leaves it to the rest
+  decided : (index first : ℕ) (codes : List ℕ) (o : Opened) → ((l : Layout) → o ≡ Accepted l → index ≡ l .candidate)
+      → ((later : ℕ) → searchFrom later (judgements candidates hostSize (suc index) codes) ≡ Accepted layout → layout .candidate < suc index + length codes)
+      → searchFrom first (o ∷ judgements candidates hostSize (suc index) codes) ≡ Accepted layout → layout .candidate < index + suc (length codes)
+  unfolding searchFrom
+  decided index first codes (Accepted l) own rest e =
+      let same : index ≡ layout .candidate = own layout e in
+      omega arith
+  decided index first codes (Refused number) own rest e =
+      let later : layout .candidate < suc index + length codes = rest (firstRefusal first number) e in
+      omega arith
+
+  search-inside : (index first : ℕ) (codes : List ℕ) → searchFrom first (judgements candidates hostSize index codes) ≡ Accepted layout
+      → layout .candidate < index + length codes
+  unfolding judgements searchFrom
+  search-inside index first [] e = absurd (refused-accepted first layout e)
+  search-inside index first (code ∷ codes) e =
+      decided index first codes (judge (locationOf code .kind) hostSize index (candidateAt index candidates))
+      (judge-candidate (locationOf code .kind) hostSize index (candidateAt index candidates))
+      (λ later. search-inside (suc index) later codes) e
+
+  -- only the last of four answers accepts
+  reached : (a b c : Bool) (o : Opened) → cond a (cond b (cond c o (Refused 3)) (Refused 2)) (Refused 1) ≡ Accepted layout → (a ≡ true) × (o ≡ Accepted layout)
+  reached true true true o e = (refl, e)
+  reached true true false o e = absurd (refused-accepted 3 layout e)
+  reached true false c o e = absurd (refused-accepted 2 layout e)
+  reached false b c o e = absurd (refused-accepted 1 layout e)
+
+  found : (codes : List ℕ) → opened candidates codes hostSize ≡ Accepted layout
+      → (lengthsRule candidates codes ≡ true) × (searchFrom 4 (judgements candidates hostSize 0 codes) ≡ Accepted layout)
+  unfolding opened
+  found codes e = reached (lengthsRule candidates codes) (codesRule codes) (hostSizeRule hostSize) (searchFrom 4 (judgements candidates hostSize 0 codes)) e
+
+  -- the accepted candidate lies whole in the candidates, and they are few
+  pub opened-inside : (codes : List ℕ) → opened candidates codes hostSize ≡ Accepted layout
+      → (layout .candidate * headerBytes + headerBytes ≤ length candidates) × (length candidates ≤ maxCandidates * headerBytes)
+  opened-inside codes e =
+      let f = found codes e in
+      let inside : layout .candidate < 0 + length codes = search-inside 0 4 codes (f .1) in
+      let whole : length candidates ≡ length codes * headerBytes = lengths-whole candidates codes (f .0) in
+      let most : length codes ≤ maxCandidates = lengths-most candidates codes (f .0) in
+      (omega arith, omega arith)

@@ -1,0 +1,80 @@
+-- `opening::key_bytes` meets its contract: the accepted candidate lies whole in the candidates, so its keys do.
+-- Assumes nothing.
+use Prim.Native.Nat.{ℕ, _+_, _*_, _≤_}
+use mathlib.Core.Path.{_≡_, refl, sym, ap, _∙_}
+use native.Mathlib.Nat.{zero-add, add-sub-cancel-left}
+use native.Mathlib.Omega.{arith}
+use lib.ListN.{length}
+use denote.Ref.{now, ptr}
+use Rattle.layout.specs.declared.Opened.the-variants.{Accepted, Refused}
+use Rattle.header.specs.Header.{headerBytes}
+use Rattle.opening.specs.Opening.{maxCandidates, opened, keysOffset, keysSize}
+use Rattle.opening.proofs.OpenedLaws.{opened-inside}
+use borrow.Author.Needs.{needs}
+use Rattle.opening.proofs.key_bytes.Statement.{statement}
+use Rattle.opening.proofs.key_bytes.Tie as tie
+
+-- where the layout was taken out, opening accepts it
+accepted : (c : tie.After-known-told) → opened (now (c .before .before .before .before .before .before .args .candidates)) (now (c .before .before .before .before .before .before .args .codes)) (c .before .before .before .before .before .before .args .host-size) ≡ Accepted (c .before .answer .given .0 .0)
+accepted c = sym (c .before .before .before .«open» .ensures) ∙ c .before .answer .given .1
+
+inside : (c : tie.After-known-told)
+    → (c .before .answer .given .0 .0 .candidate * headerBytes + headerBytes ≤ length (now (c .before .before .before .before .before .before .args .candidates))) × (length (now (c .before .before .before .before .before .before .args .candidates)) ≤ maxCandidates * headerBytes)
+inside c = opened-inside (now (c .before .before .before .before .before .before .args .candidates)) (c .before .before .before .before .before .before .args .host-size) (c .before .answer .given .0 .0) (now (c .before .before .before .before .before .before .args .codes)) (accepted c)
+
+open-requires : tie.Need-open-requires
+open-requires c κs = search needs
+
+enum-known-answer : tie.Need-enum-known-answer
+enum-known-answer c = search needs
+
+enum-told : tie.Need-enum-told
+enum-told c = search needs
+
+slice-aggregate-result : tie.Need-slice-aggregate-result
+slice-aggregate-result c = search needs
+
+returns : tie.Need-returns
+unfolding keysOffset keysSize
+returns c =
+    rw (sym (c .before .before .before .«open» .ensures) ∙ c .before .enum-told .given .1)
+    (record { content = refl; place = ap (λ (n : ℕ). (ptr (c .before .before .before .before .before .before .args .candidates) .0, n)) (sym (zero-add (ptr (c .before .before .before .before .before .before .args .candidates) .1))) })
+
+mul-keys : tie.Need-mul-keys
+mul-keys c = record { fits = omega (arith, inside c .0, inside c .1) }
+
+add-keys : tie.Need-add-keys
+add-keys c = record { fits = omega (arith, inside c .0, inside c .1) }
+
+add-result : tie.Need-add-result
+add-result c = record { fits = omega (arith, inside c .0, inside c .1) }
+
+sub-result : tie.Need-sub-result
+sub-result c = search needs
+
+part-result-start : tie.Need-part-result-start
+part-result-start c = search needs
+
+part-result-end : tie.Need-part-result-end
+part-result-end c = omega (arith, inside c .0, inside c .1)
+
+returns-2 : tie.Need-returns-2
+unfolding keysOffset keysSize
+returns-2 c = rw (accepted (c .before)) (record { content = simp add-sub-cancel-left; place = refl })
+
+pub key-bytes-spec : {M : Type 1} → statement M
+key-bytes-spec =
+    tie.close
+    (tie.spec
+    open-requires
+    enum-known-answer
+    enum-told
+    slice-aggregate-result
+    returns
+    mul-keys
+    add-keys
+    add-result
+    sub-result
+    part-result-start
+    part-result-end
+    returns-2)

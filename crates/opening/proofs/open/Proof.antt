@@ -1,0 +1,67 @@
+-- `opening::open` meets its contract: three tests in order, and then the search.
+-- Assumes nothing.
+use mathlib.Core.Path.{_≡_, sym, _∙_}
+use mathlib.Core.Bool.{true}
+use denote.Ref.{now}
+use borrow.Author.Tests.{not-true, not-false}
+use Rattle.layout.specs.Rules.{hostSizeRule}
+use Rattle.opening.specs.Opening.{lengthsRule, codesRule, opened}
+use Rattle.opening.proofs.OpenedLaws.{lengths-most, lengths-whole}
+use borrow.Author.Needs.{needs}
+use Rattle.opening.proofs.open.Statement.{statement}
+use Rattle.opening.proofs.open.Tie as tie
+
+-- what the first two tests tell once they are passed
+lengths-kept : (c : tie.Else1) → lengthsRule (now (c .before .before .before .before .args .candidates)) (now (c .before .before .before .before .args .codes)) ≡ true
+lengths-kept c = sym (c .before .lengths-agree .ensures) ∙ not-false _ (c .if1 .left)
+
+codes-kept : (c : tie.Else2) → codesRule (now (c .before .before .before .before .before .before .args .codes)) ≡ true
+codes-kept c = sym (c .before .codes-known .ensures) ∙ not-false _ (c .if2 .left)
+
+lengths-agree-requires : tie.Need-lengths-agree-requires
+lengths-agree-requires c κs = search needs
+
+returns : tie.Need-returns
+unfolding opened
+returns c = simp (sym (c .before .lengths-agree .ensures) ∙ not-true _ (c .if1 .taken))
+
+codes-known-requires : tie.Need-codes-known-requires
+codes-known-requires c κs = search needs
+
+returns-2 : tie.Need-returns-2
+unfolding opened
+returns-2 c = simp (lengths-kept (c .before .before), sym (c .before .codes-known .ensures) ∙ not-true _ (c .if2 .taken))
+
+is-host-size-requires : tie.Need-is-host-size-requires
+is-host-size-requires c κs = search needs
+
+returns-3 : tie.Need-returns-3
+unfolding opened
+returns-3 c = simp (lengths-kept (c .before .before .before .before), codes-kept (c .before .before), sym (c .before .is-host-size .ensures) ∙ not-true _ (c .if3 .taken))
+
+table-requires : tie.Need-table-requires
+table-requires c κs = search needs
+
+search-in-order-requires : tie.Need-search-in-order-requires
+search-in-order-requires c κs =
+    let a = c .before .before .before .before .before .before .before .before .before .before .args in
+    let kept = lengths-kept (c .before .before .before .before .before .before) in
+    (c .before .table .ensures, (lengths-most (now (a .candidates)) (now (a .codes)) kept, (lengths-whole (now (a .candidates)) (now (a .codes)) kept, codes-kept (c .before .before .before .before))))
+
+returns-4 : tie.Need-returns-4
+unfolding opened
+returns-4 c = simp (lengths-kept (c .before .before .before .before .before .before .before), codes-kept (c .before .before .before .before .before), sym (c .before .before .before .before .is-host-size .ensures) ∙ not-false _ (c .before .before .before .if3 .left)) (c .search-in-order .ensures)
+
+pub open-spec : {M : Type 1} → statement M
+open-spec =
+    tie.close
+    (tie.spec
+    lengths-agree-requires
+    returns
+    codes-known-requires
+    returns-2
+    is-host-size-requires
+    returns-3
+    table-requires
+    search-in-order-requires
+    returns-4)

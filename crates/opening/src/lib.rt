@@ -1,0 +1,183 @@
+// Opening a volume: where its headers lie, which of the candidates is accepted, and its key bytes.
+// Assumes nothing; no public function has a `requires`.
+ghost use mathlib.Core.Path.{_≡_};
+ghost use mathlib.Core.Bool.{true};
+ghost use Prim.Native.Nat.{_+_, _*_, _≤_, _<_};
+ghost use lib.ListN.{length};
+ghost use denote.Ref.{ptr};
+ghost use Rattle.crc32.specs.Crc32.{crcTable};
+ghost use Rattle.header.specs.Bytes.{part};
+ghost use Rattle.opening.specs.Locations.{locations, located, locationOf};
+ghost use Rattle.opening.specs.Opening.{lengthsRule, codesRule, judgements, firstRefusal, searchFrom, opened, KeyBytes};
+use header::KEYS;
+use header::KEYS_SIZE;
+use header::SIZE;
+use layout::Opened;
+
+// At most so many candidates in one call.
+pub const MAX_CANDIDATES: usize = 64;
+
+// The largest location code.
+pub const MAX_CODE: u8 = 3;
+
+// The end of the host that a distance counts from.
+pub enum Origin {
+    HostStart,
+    HostEnd,
+}
+
+// Where a header is read (document 01's place), and the kind of volume that it makes.
+pub struct Location {
+    pub distance: u64,
+    pub origin: Origin,
+    pub kind: u64,
+}
+
+// The four header locations, by location code.
+const LOCATIONS: [Location; 4] = [
+    Location {
+        distance: 0,
+        origin: Origin::HostStart,
+        kind: layout::STANDARD,
+    },
+    Location {
+        distance: 65_536,
+        origin: Origin::HostStart,
+        kind: layout::HIDDEN,
+    },
+    Location {
+        distance: 131_072,
+        origin: Origin::HostEnd,
+        kind: layout::STANDARD,
+    },
+    Location {
+        distance: 65_536,
+        origin: Origin::HostEnd,
+        kind: layout::HIDDEN,
+    },
+];
+
+// A header's offset in the host, or document 01's refusal number.
+pub enum Located {
+    At(u64),
+    Refused(u8),
+}
+
+// Where the header of a location code lies in a host of this size. Refuses 2 for a code above 3,
+// then 3 for the size.
+pub fn locate(code: u8, host_size: u64) -> Located
+    ensures { λ r. ⌜ r ≡ located code «host_size» ⌝ }
+{
+    if MAX_CODE < code {
+        return Located::Refused(2);
+    }
+    if !layout::is_host_size(host_size) {
+        return Located::Refused(3);
+    }
+    let locations = LOCATIONS;
+    let index = code as usize;
+    let entry = locations[index];
+    let origin = entry.origin;
+    match origin {
+        Origin::HostStart => Located::At(entry.distance),
+        Origin::HostEnd => Located::At(host_size - entry.distance),
+    }
+}
+
+// Opens a volume: candidates holds deciphered headers of 512 bytes, codes a location code for each.
+// The first candidate that is accepted gives the layout. Where none is, the refusal is that of the
+// first that is a header, or 4.
+pub fn open(candidates: &[u8], codes: &[u8], host_size: u64) -> Opened
+    ensures { λ r. ⌜ r ≡ opened (now (candidates .entry)) (now (codes .entry)) «host_size» ⌝ }
+{
+    if !lengths_agree(candidates, codes) {
+        return Opened::Refused(1);
+    }
+    if !codes_known(codes) {
+        return Opened::Refused(2);
+    }
+    if !layout::is_host_size(host_size) {
+        return Opened::Refused(3);
+    }
+    let table = crc32::table();
+    search_in_order(&table, candidates, codes, host_size)
+}
+
+// The key bytes of the accepted candidate: a part of candidates itself, not a copy. Where opening
+// refuses, the empty part at its start.
+pub fn key_bytes<'a>(candidates: &'a [u8], codes: &[u8], host_size: u64) -> &'a [u8]
+    ensures { λ r. ⌜ KeyBytes (opened (now (candidates .entry)) (now (codes .entry)) «host_size») (now (candidates .entry)) (ptr (candidates .entry)) (now r) (ptr r) ⌝ }
+{
+    let answer = open(candidates, codes, host_size);
+    let Opened::Accepted(layout) = answer else {
+        return &candidates[..0];
+    };
+    let keys = layout.candidate as usize * SIZE + KEYS;
+    &candidates[keys..keys + KEYS_SIZE]
+}
+
+fn lengths_agree(candidates: &[u8], codes: &[u8]) -> bool
+    ensures { λ r. ⌜ r ≡ lengthsRule (now (candidates .entry)) (now (codes .entry)) ⌝ }
+{
+    if codes.len() < 1 {
+        return false;
+    }
+    if MAX_CANDIDATES < codes.len() {
+        return false;
+    }
+    candidates.len() == codes.len() * SIZE
+}
+
+fn codes_known(codes: &[u8]) -> bool
+    ensures { λ r. ⌜ r ≡ codesRule (now (codes .entry)) ⌝ }
+{
+    let mut i = 0;
+    while i < codes.len() {
+        if MAX_CODE < codes[i] {
+            return false;
+        }
+        i += 1;
+    }
+    true
+}
+
+// The search over the candidates, with the table of CRC-32.
+fn search_in_order(table: &[u32; 256], candidates: &[u8], codes: &[u8], host_size: u64) -> Opened
+    requires { ⌜ now table ≡ crcTable ⌝ }
+    requires { ⌜ length (now codes) ≤ 64 ⌝ }
+    requires { ⌜ length (now candidates) ≡ length (now codes) * 512 ⌝ }
+    requires { ⌜ codesRule (now codes) ≡ true ⌝ }
+    ensures { λ r. ⌜ r ≡ searchFrom 4 (judgements (now (candidates .entry)) «host_size» 0 (now (codes .entry))) ⌝ }
+{
+    let locations = LOCATIONS;
+    let mut first: u8 = 4;
+    let mut index = 0;
+    loop {
+        if index == codes.len() {
+            break Opened::Refused(first);
+        }
+        let code = codes[index] as usize;
+        let entry = locations[code];
+        let start = index * SIZE;
+        let judged = header::judge_with(
+            table,
+            &candidates[start..start + SIZE],
+            entry.kind,
+            host_size,
+            index as u64,
+        );
+        match judged {
+            Opened::Accepted(layout) => break Opened::Accepted(layout),
+            Opened::Refused(number) => {
+                first = first_refusal(first, number);
+            }
+        }
+        index += 1;
+    }
+}
+
+fn first_refusal(first: u8, later: u8) -> u8
+    ensures { λ r. ⌜ r ≡ firstRefusal first later ⌝ }
+{
+    if first == 4 { later } else { first }
+}
