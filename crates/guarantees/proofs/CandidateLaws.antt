@@ -1,0 +1,72 @@
+-- The candidate at an index: it is judged by the kind of its code, and its layout tells what it holds.
+-- Assumes nothing.
+use Prim.Native.Nat.{ℕ, zero, suc, _%_, _≤_, _<_}
+use native.Mathlib.Omega.{arith}
+use mathlib.Core.Path.{_≡_, refl}
+use mathlib.Core.Logic.{inl, inr}
+use mathlib.Core.List.{List}
+use lib.ListN.{length, getD, length-take, length-drop}
+use Rattle.header.specs.Header.{layoutOf, judge}
+use Rattle.opening.specs.Locations.{locations, locationOf}
+use Rattle.opening.specs.Opening.{candidateAt}
+use Rattle.guarantees.specs.Header.{IsVera, IsTrue}
+use Rattle.guarantees.specs.Opening.{Lengths, candidate, kindOf, Tells}
+use Rattle.guarantees.proofs.HeaderLaws.{MagicIs, spellsVera, spellsTrue, spellsNeither, magic-of-says}
+use Rattle.guarantees.proofs.LineLaws.{Kind, isStandard, isHidden}
+use Rattle.guarantees.proofs.JudgementLaws.{Told, Judgement, judge-says}
+
+location-of-kind : (code : ℕ) → code ≤ 3 → locationOf code .kind ≡ kindOf code
+unfolding locationOf locations kindOf
+location-of-kind zero h = refl
+location-of-kind (suc zero) h = refl
+location-of-kind (suc (suc zero)) h = refl
+location-of-kind (suc (suc (suc zero))) h = refl
+location-of-kind (suc (suc (suc (suc code)))) h = absurd (omega arith)
+
+kind-of-says : (code : ℕ) → Kind (kindOf code)
+unfolding kindOf
+kind-of-says code = go (code % 2) (omega arith)
+  where
+    go : (kind : ℕ) → kind < 2 → Kind kind
+    go zero h = isStandard
+    go (suc zero) h = isHidden
+    go (suc (suc kind)) h = absurd (omega arith)
+
+length-candidate : (candidates codes : List ℕ) (i : ℕ) → Lengths candidates codes → i < length codes → length (candidate candidates i) ≡ 512
+unfolding candidate
+length-candidate candidates codes i lengths inside = simp (length-take, length-drop) (omega arith)
+
+vera-told : {h : List ℕ} {magic : ℕ} → MagicIs h magic → IsVera h → magic ≡ 0
+vera-told (spellsVera v g) u = refl
+vera-told (spellsTrue t f) u = absurd (f u)
+vera-told (spellsNeither f) u = absurd (f (inl u))
+
+true-told : {h : List ℕ} {magic : ℕ} → MagicIs h magic → IsTrue h → magic ≡ 1
+true-told (spellsVera v g) u = absurd (g u)
+true-told (spellsTrue t f) u = refl
+true-told (spellsNeither f) u = absurd (f (inr u))
+
+module _ (candidates codes : List ℕ) (hostSize i : ℕ) where
+  pub judge-at-says : Lengths candidates codes → i < length codes → getD codes i 0 ≤ 3
+      → Judgement (kindOf (getD codes i 0)) hostSize i (candidate candidates i)
+      (judge (locationOf (getD codes i 0) .kind) hostSize i (candidateAt i candidates))
+  unfolding candidate candidateAt
+  judge-at-says lengths inside known =
+      rw location-of-kind
+      (judge-says (kindOf (getD codes i 0)) hostSize i (candidate candidates i) (kind-of-says (getD codes i 0))
+      (length-candidate candidates codes i lengths inside))
+
+  pub layout-tells : Tells candidates codes hostSize i (Told (kindOf (getD codes i 0)) hostSize i (candidate candidates i))
+  unfolding layoutOf
+  layout-tells =
+      record {
+        hostSizeTold = refl;
+        kindTold = refl;
+        veraTold = vera-told (magic-of-says (candidate candidates i));
+        trueTold = true-told (magic-of-says (candidate candidates i));
+        versionTold = refl;
+        minProgramVersionTold = refl;
+        startTold = refl;
+        sizeTold = refl;
+        candidateTold = refl;
+      }

@@ -1,0 +1,10 @@
+pub mod CandidateLaws
+pub mod FoundLaws
+pub mod HeaderLaws
+pub mod JudgementLaws
+pub mod LineLaws
+pub mod Opening
+pub mod Reflects
+pub mod RuleLaws
+pub mod SearchLaws
+pub mod WorkedCases

@@ -1,0 +1,101 @@
+-- The test of each of the six lines reflects that a header keeps it, for a known magic and either kind of volume.
+-- Assumes nothing.
+use Prim.Native.Nat.{ℕ, _+_, _/_, _%_, _≤_}
+use native.Mathlib.Omega.{arith}
+use mathlib.Core.Path.{_≡_, refl}
+use mathlib.Core.Logic.{_⊎_, inl, inr, ⊎-elim}
+use mathlib.Core.Bool.{Bool, true, _&&_, cond, and-assoc}
+use mathlib.Core.List.{List}
+use lib.Dec.{eqb}
+use Rattle.layout.specs.Rules.{startRule, endRule, dataAreaRule}
+use Rattle.header.specs.Bytes.{part, allZero}
+use Rattle.header.specs.Header.{fieldsOf, versionRule, reservedRule, flagsRule, sectorSizeRule, hiddenSizeRule, areaRule}
+use Rattle.guarantees.specs.Header.{IsVera, IsTrue, AllZero, version, reserved, flags, sectorSize, hiddenSize, dataArea, DataArea, Keeps}
+use Rattle.guarantees.proofs.Reflects.{Reflects, holds, fails, reflects-map, reflects-and, reflects-not, reflects-eqb, reflects-leb}
+use Rattle.guarantees.proofs.HeaderLaws.{MagicIs, spellsVera, spellsTrue, spellsNeither, all-zero-reflects}
+
+-- the two kinds
+pub data Kind : ℕ → Type 0 where
+  isStandard : Kind 0
+  isHidden : Kind 1
+
+-- a test by the kind
+kind-reflects : {kind : ℕ} {P Q : Type 0} {a b : Bool} → Kind kind → Reflects P a → Reflects Q b
+    → Reflects ((kind ≡ 0 → P) × (kind ≡ 1 → Q)) (cond (eqb kind 0) a (eqb kind 1 && b))
+kind-reflects isStandard r s = reflects-map (λ p. (λ e. p, λ e. absurd (omega arith))) (λ k. k .0 refl) r
+kind-reflects isHidden r s = reflects-map (λ q. (λ e. absurd (omega arith), λ e. q)) (λ k. k .1 refl) s
+
+four-or-five : (n : ℕ) → 4 ≤ n → n ≤ 5 → (n ≡ 4) ⊎ (n ≡ 5)
+four-or-five n l m = go (reflects-eqb n 4)
+  where
+    go : {b : Bool} → Reflects (n ≡ 4) b → (n ≡ 4) ⊎ (n ≡ 5)
+    go (holds e) = inl e
+    go (fails f) = inr (omega arith)
+
+module _ (kind hostSize : ℕ) (h : List ℕ) where
+  pub version-reflects : {magic : ℕ} → IsVera h ⊎ IsTrue h → MagicIs h magic
+      → Reflects (Keeps version kind hostSize h) (versionRule magic (fieldsOf h .version))
+  unfolding Keeps versionRule
+  version-reflects known (spellsVera v g) =
+      reflects-map (λ p. (λ u. (p .1, p .0), λ t. absurd (g t))) (λ k. (k .0 v .1, k .0 v .0))
+      (reflects-and (reflects-leb (fieldsOf h .version) 5) (reflects-leb 2 (fieldsOf h .version)))
+  version-reflects known (spellsTrue t f) =
+      reflects-map (λ p. (λ v. absurd (f v), λ u. four-or-five (fieldsOf h .version) (p .1) (p .0)))
+      (λ k. ⊎-elim (λ e. omega arith) (λ e. omega arith) (k .1 t))
+      (reflects-and (reflects-leb (fieldsOf h .version) 5) (reflects-leb 4 (fieldsOf h .version)))
+  version-reflects known (spellsNeither f) = absurd (f known)
+
+  zeros-reflects : {magic : ℕ} → IsVera h ⊎ IsTrue h → MagicIs h magic
+      → Reflects (IsVera h → AllZero (part 76 16 h) × AllZero (part 132 120 h))
+      (cond (eqb magic 0) (allZero (part 76 16 h) && allZero (part 132 120 h)) true)
+  zeros-reflects known (spellsVera v g) =
+      reflects-map (λ p u. p) (λ k. k v) (reflects-and (all-zero-reflects (part 76 16 h)) (all-zero-reflects (part 132 120 h)))
+  zeros-reflects known (spellsTrue t f) = holds (λ v. absurd (f v))
+  zeros-reflects known (spellsNeither f) = absurd (f known)
+
+  pub reserved-reflects : {magic : ℕ} → IsVera h ⊎ IsTrue h → MagicIs h magic
+      → Reflects (Keeps reserved kind hostSize h) (reservedRule magic (fieldsOf h .flags) h)
+  unfolding Keeps reservedRule
+  reserved-reflects known m = reflects-and (reflects-eqb (fieldsOf h .flags / 4) 0) (zeros-reflects known m)
+
+  pub flags-reflects : Reflects (Keeps flags kind hostSize h) (flagsRule (fieldsOf h .flags))
+  unfolding Keeps flagsRule
+  flags-reflects = reflects-eqb (fieldsOf h .flags % 4) 0
+
+  pub sector-size-reflects : Reflects (Keeps sectorSize kind hostSize h) (sectorSizeRule (fieldsOf h .«sector_size»))
+  unfolding Keeps sectorSizeRule
+  sector-size-reflects = reflects-eqb (fieldsOf h .«sector_size») 512
+
+  pub hidden-size-reflects : Kind kind
+      → Reflects (Keeps hiddenSize kind hostSize h) (hiddenSizeRule kind (fieldsOf h .«hidden_size») (fieldsOf h .«data_size»))
+  unfolding Keeps hiddenSizeRule
+  hidden-size-reflects either =
+      let zero = reflects-eqb (fieldsOf h .«hidden_size») 0 in
+      rw and-assoc (kind-reflects either zero (reflects-and (reflects-not zero) (reflects-eqb (fieldsOf h .«hidden_size») (fieldsOf h .«data_size»))))
+
+area-reflects : (kind hostSize start size encryptedSize : ℕ) → Kind kind
+    → Reflects (DataArea kind hostSize start size encryptedSize) (areaRule kind hostSize start size encryptedSize)
+unfolding areaRule dataAreaRule startRule endRule
+area-reflects kind hostSize start size encryptedSize either =
+    reflects-map
+    (λ p.
+    record {
+      encrypted = p .0;
+      atLeast = p .1 .0 .0 .0 .0;
+      sizeMultiple = p .1 .0 .0 .0 .1;
+      startMultiple = p .1 .0 .0 .1;
+      standardStart = p .1 .0 .1 .0;
+      hiddenStart = p .1 .0 .1 .1;
+      fits = p .1 .1;
+    })
+    (λ r. (r .encrypted, ((((r .atLeast, r .sizeMultiple), r .startMultiple), (r .standardStart, r .hiddenStart)), r .fits)))
+    (reflects-and (reflects-eqb encryptedSize size)
+    (reflects-and
+    (reflects-and (reflects-and (reflects-and (reflects-leb 512 size) (reflects-eqb (size % 512) 0)) (reflects-eqb (start % 512) 0))
+    (kind-reflects either (reflects-eqb start 131072) (reflects-leb 131072 start)))
+    (reflects-leb (start + size + 131072) hostSize)))
+
+pub data-area-reflects : (kind hostSize : ℕ) (h : List ℕ) → Kind kind
+    → Reflects (Keeps dataArea kind hostSize h) (areaRule kind hostSize (fieldsOf h .«data_start») (fieldsOf h .«data_size») (fieldsOf h .«encrypted_size»))
+unfolding Keeps
+data-area-reflects kind hostSize h = area-reflects kind hostSize (fieldsOf h .«data_start») (fieldsOf h .«data_size») (fieldsOf h .«encrypted_size»)

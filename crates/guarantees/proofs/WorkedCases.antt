@@ -1,0 +1,20 @@
+-- The worked cases hold: antt computes both sides.
+-- Assumes nothing.
+use mathlib.Core.Path.{refl}
+use Rattle.numbers.specs.Numbers.{bigEndian, bigEndianFrom, littleEndian}
+use Rattle.crc32.specs.Crc32.{crc32, crcFrom, bitSteps, bitStep}
+use Rattle.layout.specs.Rules.{hostSizeRule, dataAreaRule, startRule, endRule}
+use Rattle.header.specs.Bytes.{sameBytes, allZero}
+use Rattle.header.specs.Header.{magicOf, fieldsOf, checksumsMatch, isHeaderBy, layoutOf, answer, judgeBy, judge}
+use Rattle.header.specs.Header.{versionRule, reservedRule, flagsRule, sectorSizeRule, hiddenSizeRule, areaRule, firstBroken}
+use Rattle.opening.specs.Locations.{locations, locationOf, codeRule}
+use Rattle.opening.specs.Opening.{lengthsRule, codesRule, candidateAt, judgements, firstRefusal, searchFrom, opened}
+use Rattle.guarantees.specs.WorkedCases.{bytesOf, fieldBytes, headerWith, shown, opens, cases, AsWorked}
+
+pub as-worked : AsWorked
+unfolding AsWorked cases opens shown headerWith fieldBytes bytesOf
+    opened lengthsRule codesRule codeRule hostSizeRule searchFrom firstRefusal judgements candidateAt locationOf locations
+    judge judgeBy isHeaderBy magicOf fieldsOf checksumsMatch sameBytes allZero answer layoutOf
+    firstBroken versionRule reservedRule flagsRule sectorSizeRule hiddenSizeRule areaRule dataAreaRule startRule endRule
+    crc32 crcFrom bitStep bitSteps bigEndian bigEndianFrom littleEndian
+as-worked = refl

@@ -1,0 +1,1 @@
+// No code: the demands on the crates below, stated in specs/ and proved in proofs/.
