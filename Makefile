@@ -1,0 +1,12 @@
+.PHONY: map test
+
+# The map program on a sample header: host size 1,048,576, location code 0, 512 header bytes.
+map: target/bin/volmap
+	@{ printf '\0\0\0\0\0\020\0\0\0'; cat samples/tcplay-1048576-code0.header; } | target/bin/volmap
+
+target/bin/volmap: crates.txt $(shell find crates -name '*.rt' -o -name '*.antt')
+	@mkdir -p target
+	@rt check volmap >target/volmap.log 2>&1 || { cat target/volmap.log; exit 1; }
+
+test:
+	.ci/run
