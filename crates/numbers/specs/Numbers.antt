@@ -1,5 +1,5 @@
 -- Numbers of any count of bytes, in either order: what the contracts of `numbers`, and every field above it, cite. Assumes nothing.
-use Prim.Native.Nat.{ℕ, _+_, _*_, _%_, _^_, _≤_}
+use Prim.Native.Nat.{ℕ, zero, suc, _+_, _*_, _/_, _%_, _^_, _≤_}
 use mathlib.Core.Path.{_≡_}
 use mathlib.Core.List.{List, [], _∷_}
 
@@ -16,6 +16,11 @@ bigEndian bs = bigEndianFrom 0 bs
 unfoldable pub littleEndian : List ℕ → ℕ
 littleEndian [] = 0
 littleEndian (b ∷ bs) = b + 256 * littleEndian bs
+
+-- a number as so many bytes, the first byte the least significant; what does not fit is left out
+unfoldable pub littleEndianBytes : ℕ → ℕ → List ℕ
+littleEndianBytes zero number = []
+littleEndianBytes (suc size) number = number % 256 ∷ littleEndianBytes size (number / 256)
 
 -- a number read into 64 bits: the number modulo 2^64, which is the number itself for at most eight bytes
 pub record ReadAs (number size r : ℕ) : Type 0 where

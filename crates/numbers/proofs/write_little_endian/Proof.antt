@@ -1,0 +1,72 @@
+-- `numbers::write_little_endian` meets its contract. The loop's invariant: what is written, and then what is left to write, are the bytes of the whole.
+-- Assumes nothing.
+use mathlib.Core.Path.{refl}
+use native.Mathlib.Nat.{sub-zero}
+use denote.Ref.{now}
+use Prim.Native.Nat.{_≤_, _-_}
+use mathlib.Core.Path.{_≡_, sym, _∙_}
+use mathlib.Core.List.{_++_}
+use native.Mathlib.Omega.{arith}
+use borrow.Author.Needs.{needs}
+use lib.ListN.{length, take, length-set}
+use Rattle.numbers.specs.Numbers.{littleEndianBytes}
+use Rattle.numbers.proofs.WrittenLaws.{written-suc, written-end}
+use Rattle.numbers.proofs.write_little_endian.Statement.{statement}
+use Rattle.numbers.proofs.write_little_endian.Tie as tie
+
+abbrev Inv-loop : tie.InvT-loop
+Inv-loop number bytes₀ rest₀ at₀ bytes rest at =
+    (at ≤ length bytes₀) × ((length bytes ≡ length bytes₀) × (littleEndianBytes (length bytes₀) number ≡ take at bytes ++ littleEndianBytes (length bytes₀ - at) rest))
+
+abbrev μ-loop : tie.MeasureT-loop
+μ-loop number bytes₀ rest₀ at₀ bytes rest at = length bytes₀ - at
+
+loop-holds : tie.Need-loop-holds Inv-loop μ-loop
+loop-holds c = (search needs, (refl, rw sub-zero))
+
+cast-bytes : tie.Need-cast-bytes Inv-loop μ-loop
+cast-bytes c = search needs
+
+slice-write-bytes : tie.Need-slice-write-bytes Inv-loop μ-loop
+slice-write-bytes c = search needs
+
+add-at : tie.Need-add-at Inv-loop μ-loop
+add-at c = search needs
+
+loop-less : tie.Need-loop-less Inv-loop μ-loop
+loop-less c = search needs
+
+loop-again : tie.Need-loop-again Inv-loop μ-loop
+loop-again c =
+    let n = length (now (c .before .before .args .bytes)) in
+    let at = c .before .loop in (
+      omega arith,
+      (
+        simp length-set (at .inv .1 .0),
+        at .inv .1 .1 ∙ written-suc (at .bytes) n (at .at) (at .rest) (omega arith) (at .inv .1 .0),
+      ),
+    )
+
+same-length : tie.Need-same-length Inv-loop μ-loop
+same-length c = search needs
+
+returns : tie.Need-returns Inv-loop μ-loop
+returns c =
+    let n = length (now (c .before .before .args .bytes)) in
+    let at = c .before .loop in
+    sym (at .inv .1 .1 ∙ written-end (at .bytes) n (at .at) (at .rest) (omega arith) (at .inv .1 .0))
+
+pub write-little-endian-spec : {M : Type 1} → statement M
+write-little-endian-spec =
+    tie.close
+    (tie.spec
+    Inv-loop
+    μ-loop
+    loop-holds
+    cast-bytes
+    slice-write-bytes
+    add-at
+    loop-less
+    loop-again
+    same-length
+    returns)
