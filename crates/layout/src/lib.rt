@@ -3,6 +3,7 @@
 ghost use mathlib.Core.Path.{_≡_};
 ghost use Rattle.layout.specs.Answer.{numberOf};
 ghost use Rattle.layout.specs.Rules.{hostSizeRule, startRule, endRule, dataAreaRule};
+ghost use Rattle.layout.specs.Soundness.{sound};
 
 // The kinds of a volume, as a layout has them.
 pub const STANDARD: u64 = 0;
@@ -78,6 +79,21 @@ pub fn is_data_area(kind: u64, host_size: u64, data_start: u64, data_size: u64) 
         return false;
     }
     ends_before_backups(host_size, data_start, data_size)
+}
+
+// Whether a layout keeps the rules for its host's size and its data area.
+pub fn is_sound(layout: Layout) -> bool
+    ensures { λ r. ⌜ r ≡ sound layout ⌝ }
+{
+    if !is_host_size(layout.host_size) {
+        return false;
+    }
+    is_data_area(
+        layout.kind,
+        layout.host_size,
+        layout.data_start,
+        layout.data_size,
+    )
 }
 
 fn starts_after_headers(kind: u64, data_start: u64) -> bool
