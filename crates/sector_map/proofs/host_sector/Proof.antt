@@ -1,0 +1,29 @@
+-- `sector_map::host_sector` meets its contract.
+-- Assumes nothing.
+use mathlib.Core.Path.{sym, _∙_}
+use borrow.Author.Tests.{le-ltb, lt-ltb, not-true, not-false}
+use Rattle.sector_map.specs.SectorMap.{hostSector, sectors, firstSector}
+use borrow.Author.Needs.{needs}
+use Rattle.sector_map.proofs.host_sector.Statement.{statement}
+use Rattle.sector_map.proofs.host_sector.Tie as tie
+
+is-sound-requires : tie.Need-is-sound-requires
+is-sound-requires c κs = search needs
+
+returns : tie.Need-returns
+unfolding hostSector sectors firstSector
+returns c = simp (sym (c .before .is-sound .ensures) ∙ not-true _ (c .if1 .taken))
+
+returns-2 : tie.Need-returns-2
+unfolding hostSector sectors firstSector
+returns-2 c = simp (sym (c .before .before .before .is-sound .ensures) ∙ not-false _ (c .before .before .if1 .left), le-ltb _ _ (c .if2 .taken))
+
+add-t6 : tie.Need-add-t6
+add-t6 c = search needs
+
+returns-3 : tie.Need-returns-3
+unfolding hostSector sectors firstSector
+returns-3 c = simp (sym (c .before .before .before .before .is-sound .ensures) ∙ not-false _ (c .before .before .before .if1 .left), lt-ltb _ _ (c .before .if2 .left))
+
+pub host-sector-spec : {M : Type 1} → statement M
+host-sector-spec = tie.close (tie.spec is-sound-requires returns returns-2 add-t6 returns-3)

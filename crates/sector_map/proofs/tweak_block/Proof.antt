@@ -1,0 +1,60 @@
+-- `sector_map::tweak_block` meets its contract: sixteen little-endian bytes of a number below 2^64 are eight, and zeros.
+-- Assumes nothing.
+use Prim.Native.Nat.{ℕ, _^_, _<_}
+use mathlib.Core.List.{List}
+use native.Mathlib.Omega.{arith}
+use Rattle.sector_map.specs.declared.Mapped.{Mapped}
+use Rattle.sector_map.specs.declared.Tweak.{Tweak}
+use Rattle.sector_map.specs.declared.Mapped.the-variants.{Number, Refused}
+use mathlib.Core.Path.{refl, ap}
+use mathlib.Core.Path.{_≡_, sym, _∙_}
+use Rattle.numbers.proofs.WrittenLaws.{little-endian-bytes-pad}
+use Rattle.sector_map.specs.SectorMap.{tweakOf, blockOf}
+use borrow.Author.Needs.{needs}
+use Rattle.sector_map.proofs.tweak_block.Statement.{statement}
+use Rattle.sector_map.proofs.tweak_block.Tie as tie
+
+-- a tweak, from its parts
+abbrev tweak : Mapped → List ℕ → Tweak
+tweak number block = record { number = number; block = block }
+
+tweak-number-requires : tie.Need-tweak-number-requires
+tweak-number-requires c κs = search needs
+
+enum-known-number : tie.Need-enum-known-number
+enum-known-number c = search needs
+
+slice-aggregate-write-little-endian : tie.Need-slice-aggregate-write-little-endian
+slice-aggregate-write-little-endian c = search needs
+
+write-little-endian-requires : tie.Need-write-little-endian-requires
+write-little-endian-requires c κs = search needs
+
+enum-told : tie.Need-enum-told
+enum-told c = search needs
+
+returns : tie.Need-returns
+unfolding tweakOf blockOf
+returns c =
+    let told = c .before .before .before .before .number .given in
+    let small : told .0 .0 < 256 ^ 8 = omega (arith, c .before .before .before .known-told .given) in
+    rw (sym (c .before .before .before .before .before .before .tweak-number .ensures) ∙ told .1)
+    (ap (tweak (Number (told .0 .0))) (c .before .write-little-endian .ensures ∙ little-endian-bytes-pad 8 8 (told .0 .0) small))
+
+returns-2 : tie.Need-returns-2
+unfolding tweakOf blockOf
+returns-2 c =
+    let told = c .enum-told .given in
+    rw (← c .before .before .tweak-number .ensures, told .1)
+
+pub tweak-block-spec : {M : Type 1} → statement M
+tweak-block-spec =
+    tie.close
+    (tie.spec
+    tweak-number-requires
+    enum-known-number
+    slice-aggregate-write-little-endian
+    write-little-endian-requires
+    enum-told
+    returns
+    returns-2)

@@ -1,0 +1,56 @@
+-- The sector map (document 01, "Sector map"): user sectors, host sectors and tweaks of a layout. Sectors have 512 bytes.
+-- What the contracts of `sector_map` cite. Assumes nothing.
+use Prim.Native.Nat.{ℕ, _+_, _-_, _/_}
+use mathlib.Core.Bool.{_&&_, cond}
+use mathlib.Core.List.{List, _++_}
+use lib.Dec.{leb, ltb}
+use lib.ListN.{replicate}
+use Rattle.numbers.specs.Numbers.{littleEndianBytes}
+use Rattle.layout.specs.Rules.{sectorBytes}
+use Rattle.layout.specs.Soundness.{sound}
+use Rattle.layout.specs.declared.Layout.{Layout}
+use Rattle.sector_map.specs.declared.Mapped.{Mapped}
+use Rattle.sector_map.specs.declared.Mapped.the-variants.{Number, Refused}
+use Rattle.sector_map.specs.declared.Tweak.{Tweak}
+
+-- how many sectors a volume has: V/512
+unfoldable pub sectors : Layout → ℕ
+sectors layout = layout .«data_size» / sectorBytes
+
+-- the host sector of user sector 0: O/512
+unfoldable pub firstSector : Layout → ℕ
+firstSector layout = layout .«data_start» / sectorBytes
+
+-- the count of sectors, of a sound layout
+unfoldable pub sectorCount : Layout → Mapped
+sectorCount layout = cond (sound layout) (Number (sectors layout)) (Refused 11)
+
+-- the host sector of a user sector u below V/512: O/512+u
+unfoldable pub hostSector : Layout → ℕ → Mapped
+hostSector layout user =
+    cond (sound layout) (cond (ltb user (sectors layout)) (Number (firstSector layout + user)) (Refused 16)) (Refused 11)
+
+-- back: the user sector of a host sector of the data area
+unfoldable pub userSector : Layout → ℕ → Mapped
+userSector layout host =
+    cond (sound layout)
+    (cond (leb (firstSector layout) host && ltb host (firstSector layout + sectors layout)) (Number (host - firstSector layout)) (Refused 16))
+    (Refused 11)
+
+-- the tweak number of a user sector: its host sector number, counted from the host's start, for hidden volumes too
+unfoldable pub tweakNumber : Layout → ℕ → Mapped
+tweakNumber layout user = hostSector layout user
+
+-- the tweak block of a tweak number: the number little-endian in the first 8 bytes, then zeros; on a refusal sixteen zeros
+unfoldable pub blockOf : Mapped → List ℕ
+blockOf (Number number) = littleEndianBytes 8 number ++ replicate 8 0
+blockOf (Refused number) = replicate 16 0
+
+-- the tweak of a user sector: its number, or the refusal, and its block beside it
+unfoldable pub tweakOf : Layout → ℕ → Tweak
+tweakOf layout user = record { number = tweakNumber layout user; block = blockOf (tweakNumber layout user) }
+
+-- document 01's refusal number of an answer; 0 for a number is our own convention
+unfoldable pub mappedRefusal : Mapped → ℕ
+mappedRefusal (Number number) = 0
+mappedRefusal (Refused number) = number
