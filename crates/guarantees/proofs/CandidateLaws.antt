@@ -12,7 +12,7 @@ use Rattle.opening.specs.Opening.{candidateAt}
 use Rattle.guarantees.specs.Header.{IsVera, IsTrue}
 use Rattle.guarantees.specs.Opening.{Lengths, candidate, kindOf, Tells}
 use Rattle.guarantees.proofs.HeaderLaws.{MagicIs, spellsVera, spellsTrue, spellsNeither, magic-of-says}
-use Rattle.guarantees.proofs.LineLaws.{Kind, isStandard, isHidden}
+use Rattle.guarantees.proofs.LineLaws.{Kind}
 use Rattle.guarantees.proofs.JudgementLaws.{Told, Judgement, judge-says}
 
 location-of-kind : (code : ℕ) → code ≤ 3 → locationOf code .kind ≡ kindOf code
@@ -23,13 +23,13 @@ location-of-kind (suc (suc zero)) h = refl
 location-of-kind (suc (suc (suc zero))) h = refl
 location-of-kind (suc (suc (suc (suc code)))) h = absurd (omega arith)
 
-kind-of-says : (code : ℕ) → Kind (kindOf code)
+pub kind-of-says : (code : ℕ) → Kind (kindOf code)
 unfolding kindOf
 kind-of-says code = go (code % 2) (omega arith)
   where
     go : (kind : ℕ) → kind < 2 → Kind kind
-    go zero h = isStandard
-    go (suc zero) h = isHidden
+    go zero h = inl refl
+    go (suc zero) h = inr refl
     go (suc (suc kind)) h = absurd (omega arith)
 
 length-candidate : (candidates codes : List ℕ) (i : ℕ) → Lengths candidates codes → i < length codes → length (candidate candidates i) ≡ 512

@@ -1,10 +1,14 @@
+pub mod BlockLaws
 pub mod CandidateLaws
 pub mod FoundLaws
 pub mod HeaderLaws
 pub mod JudgementLaws
 pub mod LineLaws
+pub mod MapLaws
 pub mod Opening
 pub mod Reflects
 pub mod RuleLaws
 pub mod SearchLaws
+pub mod SectorMap
+pub mod SoundLaws
 pub mod WorkedCases

@@ -2,28 +2,36 @@
 -- Assumes nothing.
 use Prim.Native.Nat.{ℕ, _+_, _/_, _%_, _≤_}
 use native.Mathlib.Omega.{arith}
-use mathlib.Core.Path.{_≡_, refl}
+use mathlib.Core.Path.{_≡_}
 use mathlib.Core.Logic.{_⊎_, inl, inr, ⊎-elim}
 use mathlib.Core.Bool.{Bool, true, _&&_, cond, and-assoc}
 use mathlib.Core.List.{List}
 use lib.Dec.{eqb}
-use Rattle.layout.specs.Rules.{startRule, endRule, dataAreaRule}
+use Rattle.layout.specs.Rules.{standard, hidden, startRule, endRule, dataAreaRule}
 use Rattle.header.specs.Bytes.{part, allZero}
 use Rattle.header.specs.Header.{fieldsOf, versionRule, reservedRule, flagsRule, sectorSizeRule, hiddenSizeRule, areaRule}
 use Rattle.guarantees.specs.Header.{IsVera, IsTrue, AllZero, version, reserved, flags, sectorSize, hiddenSize, dataArea, DataArea, Keeps}
 use Rattle.guarantees.proofs.Reflects.{Reflects, holds, fails, reflects-map, reflects-and, reflects-not, reflects-eqb, reflects-leb}
 use Rattle.guarantees.proofs.HeaderLaws.{MagicIs, spellsVera, spellsTrue, spellsNeither, all-zero-reflects}
 
--- the two kinds
-pub data Kind : ℕ → Type 0 where
-  isStandard : Kind 0
-  isHidden : Kind 1
+-- one of the two kinds
+abbrev pub Kind : ℕ → Type 0
+Kind kind = (kind ≡ standard) ⊎ (kind ≡ hidden)
 
--- a test by the kind
-kind-reflects : {kind : ℕ} {P Q : Type 0} {a b : Bool} → Kind kind → Reflects P a → Reflects Q b
-    → Reflects ((kind ≡ 0 → P) × (kind ≡ 1 → Q)) (cond (eqb kind 0) a (eqb kind 1 && b))
-kind-reflects isStandard r s = reflects-map (λ p. (λ e. p, λ e. absurd (omega arith))) (λ k. k .0 refl) r
-kind-reflects isHidden r s = reflects-map (λ q. (λ e. absurd (omega arith), λ e. q)) (λ k. k .1 refl) s
+-- a test by the kind, which no other kind passes
+kind-reflects : (kind : ℕ) {P Q : Type 0} {a b : Bool} → Reflects P a → Reflects Q b
+    → Reflects (Kind kind × ((kind ≡ standard → P) × (kind ≡ hidden → Q))) (cond (eqb kind standard) a (eqb kind hidden && b))
+kind-reflects kind = go (reflects-eqb kind standard) (reflects-eqb kind hidden)
+  where
+    go : {P Q : Type 0} {a b c d : Bool} → Reflects (kind ≡ standard) c → Reflects (kind ≡ hidden) d → Reflects P a → Reflects Q b
+        → Reflects (Kind kind × ((kind ≡ standard → P) × (kind ≡ hidden → Q))) (cond c a (d && b))
+    go (holds e) t r s = reflects-map (λ p. (inl e, (λ u. p, λ u. absurd (omega arith)))) (λ k. k .1 .0 e) r
+    go (fails f) (holds e) r s = reflects-map (λ q. (inr e, (λ u. absurd (f u), λ u. q))) (λ k. k .1 .1 e) s
+    go (fails f) (fails g) r s = fails (λ k. ⊎-elim f g (k .0))
+
+-- .. where the kind is known
+known-reflects : {kind : ℕ} {P : Type 0} {b : Bool} → Kind kind → Reflects (Kind kind × P) b → Reflects P b
+known-reflects known = reflects-map (λ p. p .1) (λ p. (known, p))
 
 four-or-five : (n : ℕ) → 4 ≤ n → n ≤ 5 → (n ≡ 4) ⊎ (n ≡ 5)
 four-or-five n l m = go (reflects-eqb n 4)
@@ -71,31 +79,39 @@ module _ (kind hostSize : ℕ) (h : List ℕ) where
   unfolding Keeps hiddenSizeRule
   hidden-size-reflects either =
       let zero = reflects-eqb (fieldsOf h .«hidden_size») 0 in
-      rw and-assoc (kind-reflects either zero (reflects-and (reflects-not zero) (reflects-eqb (fieldsOf h .«hidden_size») (fieldsOf h .«data_size»))))
+      rw and-assoc
+      (known-reflects either
+      (kind-reflects kind zero (reflects-and (reflects-not zero) (reflects-eqb (fieldsOf h .«hidden_size») (fieldsOf h .«data_size»)))))
 
-area-reflects : (kind hostSize start size encryptedSize : ℕ) → Kind kind
-    → Reflects (DataArea kind hostSize start size encryptedSize) (areaRule kind hostSize start size encryptedSize)
+-- the last line, over its numbers: no other kind passes it
+pub area-reflects : (kind hostSize start size encryptedSize : ℕ)
+    → Reflects (Kind kind × DataArea kind hostSize start size encryptedSize) (areaRule kind hostSize start size encryptedSize)
 unfolding areaRule dataAreaRule startRule endRule
-area-reflects kind hostSize start size encryptedSize either =
+area-reflects kind hostSize start size encryptedSize =
     reflects-map
-    (λ p.
-    record {
-      encrypted = p .0;
-      atLeast = p .1 .0 .0 .0 .0;
-      sizeMultiple = p .1 .0 .0 .0 .1;
-      startMultiple = p .1 .0 .0 .1;
-      standardStart = p .1 .0 .1 .0;
-      hiddenStart = p .1 .0 .1 .1;
-      fits = p .1 .1;
-    })
-    (λ r. (r .encrypted, ((((r .atLeast, r .sizeMultiple), r .startMultiple), (r .standardStart, r .hiddenStart)), r .fits)))
+    (λ p. (
+      p .1 .0 .1 .0,
+      record {
+        encrypted = p .0;
+        atLeast = p .1 .0 .0 .0 .0;
+        sizeMultiple = p .1 .0 .0 .0 .1;
+        startMultiple = p .1 .0 .0 .1;
+        standardStart = p .1 .0 .1 .1 .0;
+        hiddenStart = p .1 .0 .1 .1 .1;
+        fits = p .1 .1;
+      },
+    ))
+    (λ q.
+    let r = q .1 in
+    (r .encrypted, ((((r .atLeast, r .sizeMultiple), r .startMultiple), (q .0, (r .standardStart, r .hiddenStart))), r .fits)))
     (reflects-and (reflects-eqb encryptedSize size)
     (reflects-and
     (reflects-and (reflects-and (reflects-and (reflects-leb 512 size) (reflects-eqb (size % 512) 0)) (reflects-eqb (start % 512) 0))
-    (kind-reflects either (reflects-eqb start 131072) (reflects-leb 131072 start)))
+    (kind-reflects kind (reflects-eqb start 131072) (reflects-leb 131072 start)))
     (reflects-leb (start + size + 131072) hostSize)))
 
 pub data-area-reflects : (kind hostSize : ℕ) (h : List ℕ) → Kind kind
     → Reflects (Keeps dataArea kind hostSize h) (areaRule kind hostSize (fieldsOf h .«data_start») (fieldsOf h .«data_size») (fieldsOf h .«encrypted_size»))
 unfolding Keeps
-data-area-reflects kind hostSize h = area-reflects kind hostSize (fieldsOf h .«data_start») (fieldsOf h .«data_size») (fieldsOf h .«encrypted_size»)
+data-area-reflects kind hostSize h either =
+    known-reflects either (area-reflects kind hostSize (fieldsOf h .«data_start») (fieldsOf h .«data_size») (fieldsOf h .«encrypted_size»))

@@ -2,12 +2,17 @@
 use Prim.Native.Nat.{ℕ, zero, suc, _-_, _/_, _%_, _^_}
 use mathlib.Core.Path.{_≡_}
 use mathlib.Core.List.{List, [], _∷_, _++_, map}
-use lib.ListN.{replicate, drop}
+use lib.ListN.{replicate}
 use Rattle.crc32.specs.Crc32.{crc32}
 use Rattle.layout.specs.declared.Opened.{Opened}
 use Rattle.layout.specs.declared.Opened.the-variants.{Accepted, Refused}
 use Rattle.header.specs.Header.{trueMagic}
+use Rattle.layout.specs.declared.Layout.{Layout}
 use Rattle.opening.specs.Opening.{opened}
+use Rattle.sector_map.specs.SectorMap.{hostSector, userSector, tweakOf}
+use Rattle.sector_map.specs.declared.Mapped.{Mapped}
+use Rattle.sector_map.specs.declared.Mapped.the-variants as mapped
+use Rattle.sector_map.specs.declared.Tweak.{Tweak}
 
 -- a number as k bytes, the most significant first
 unfoldable pub bytesOf : ℕ → ℕ → List ℕ
@@ -35,6 +40,43 @@ shown (Refused number) = number ∷ []
 unfoldable pub opens : ℕ → ℕ → ℕ → List ℕ
 opens hostSize size encryptedSize = shown (opened (headerWith size encryptedSize) (0 ∷ []) hostSize)
 
+-- document 01's M, a standard volume
+unfoldable pub volumeM : Layout
+volumeM =
+    record {
+      «host_size» = 1048576;
+      kind = 0;
+      magic = 1;
+      version = 5;
+      «min_program_version» = 7;
+      «data_start» = 131072;
+      «data_size» = 786432;
+      candidate = 0;
+    }
+
+-- document 01's N, hidden in M
+unfoldable pub volumeN : Layout
+volumeN =
+    record {
+      «host_size» = 1048576;
+      kind = 1;
+      magic = 1;
+      version = 5;
+      «min_program_version» = 7;
+      «data_start» = 655360;
+      «data_size» = 262144;
+      candidate = 1;
+    }
+
+-- what a case shows of the map: the refusal number, or 0 and the sector or tweak number
+unfoldable pub mappedShown : Mapped → List ℕ
+mappedShown (mapped.Number number) = 0 ∷ number ∷ []
+mappedShown (mapped.Refused number) = number ∷ []
+
+-- .. and of a tweak, its block behind that
+unfoldable pub tweakShown : Tweak → List ℕ
+tweakShown tweak = mappedShown (tweak .number) ++ tweak .block
+
 -- a case: what the definitions answer, and what document 01 says
 pub record Case : Type 0 where
   pub answer : List ℕ
@@ -53,6 +95,17 @@ cases =
     ∷ record { answer = opens 1048576 786944 786944; expected = 10 ∷ [] }
     -- V and E 2^64-512: 10
     ∷ record { answer = opens 1048576 (2 ^ 64 - 512) (2 ^ 64 - 512); expected = 10 ∷ [] }
+    -- M sector 0 has tweak 256, block 00 01 and fourteen zeros
+    ∷ record { answer = tweakShown (tweakOf volumeM 0); expected = 0 ∷ 256 ∷ 0x00 ∷ 0x01 ∷ replicate 14 0 }
+    -- M sector 1,535 has tweak 1,791, block FF 06 and fourteen zeros
+    ∷ record { answer = tweakShown (tweakOf volumeM 1535); expected = 0 ∷ 1791 ∷ 0xFF ∷ 0x06 ∷ replicate 14 0 }
+    -- M sector 1,536: 16
+    ∷ record { answer = mappedShown (hostSector volumeM 1536); expected = 16 ∷ [] }
+    -- N sector 0 has tweak 1,280, block 00 05 and fourteen zeros
+    ∷ record { answer = tweakShown (tweakOf volumeN 0); expected = 0 ∷ 1280 ∷ 0x00 ∷ 0x05 ∷ replicate 14 0 }
+    -- back: host sector 255: 16; 256 gives 0 in M
+    ∷ record { answer = mappedShown (userSector volumeM 255); expected = 16 ∷ [] }
+    ∷ record { answer = mappedShown (userSector volumeM 256); expected = 0 ∷ 0 ∷ [] }
     ∷ []
 
 -- every case is as document 01 says

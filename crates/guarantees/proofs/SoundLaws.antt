@@ -1,0 +1,31 @@
+-- The test of a layout's soundness reflects what the guarantees say of it, and a sound layout starts behind the headers.
+-- Assumes nothing.
+use Prim.Native.Nat.{ℕ, _≤_}
+use native.Mathlib.Omega.{arith}
+use mathlib.Core.Path.{refl}
+use mathlib.Core.Logic.{⊎-elim}
+use Rattle.layout.specs.Rules.{dataAreaRule}
+use Rattle.layout.specs.Soundness.{sound}
+use Rattle.layout.specs.declared.Layout.{Layout}
+use Rattle.header.specs.Header.{areaRule}
+use Rattle.guarantees.specs.Header.{DataArea}
+use Rattle.guarantees.specs.SectorMap.{Sound}
+use Rattle.guarantees.proofs.Reflects.{Reflects, is-true, reflects-map, reflects-and, reflects-eqb}
+use Rattle.guarantees.proofs.RuleLaws.{host-size-reflects}
+use Rattle.guarantees.proofs.LineLaws.{Kind, area-reflects}
+
+-- the last header line, with E taken as V
+data-area-rule-reflects : (kind hostSize start size : ℕ) → Reflects (Kind kind × DataArea kind hostSize start size size) (dataAreaRule kind hostSize start size)
+unfolding areaRule
+data-area-rule-reflects kind hostSize start size = rw (is-true (reflects-eqb size size) refl) at (area-reflects kind hostSize start size size)
+
+pub sound-reflects : (layout : Layout) → Reflects (Sound layout) (sound layout)
+unfolding sound
+sound-reflects layout =
+    reflects-map (λ p. record { size = p .0; known = p .1 .0; area = p .1 .1 }) (λ s. (s .size, (s .known, s .area)))
+    (reflects-and (host-size-reflects (layout .«host_size»))
+    (data-area-rule-reflects (layout .kind) (layout .«host_size») (layout .«data_start») (layout .«data_size»)))
+
+pub sound-start : (layout : Layout) → Sound layout → 131072 ≤ layout .«data_start»
+sound-start layout s =
+    ⊎-elim (λ standard. omega (arith, s .area .standardStart standard)) (λ hidden. s .area .hiddenStart hidden) (s .known)
