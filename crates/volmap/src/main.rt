@@ -2,6 +2,7 @@
 // prints where the volume lies in its host, or the refusal. Assumes nothing.
 use layout::Layout;
 use layout::Opened;
+use sector_map::Mapped;
 
 fn main() {
     // Room for one byte more than the input has, so that a longer input is seen.
@@ -48,14 +49,25 @@ fn print_kind(kind: u64) {
     }
 }
 
-// The same in sectors of the host. Every volume that opening accepts has a last sector.
+// The same in sectors of the host, as the map has them. It refuses no layout that opening accepts,
+// and each of those has a last sector.
 fn print_sectors(layout: Layout) {
-    let first = layout.data_start / layout::SECTOR_SIZE;
-    let sectors = layout.data_size / layout::SECTOR_SIZE;
+    let counted = sector_map::sector_count(layout);
+    let Mapped::Number(sectors) = counted else {
+        return;
+    };
     print_number(b"sectors", sectors);
-    print_number(b"first", first);
     if 0 < sectors {
-        print_number(b"last", first + (sectors - 1));
+        print_host_sector(b"first", layout, 0);
+        print_host_sector(b"last", layout, sectors - 1);
+    }
+}
+
+// Where a user sector lies. Nothing where it is refused.
+fn print_host_sector(label: &[u8], layout: Layout, user: u64) {
+    let host = sector_map::host_sector(layout, user);
+    if let Mapped::Number(number) = host {
+        print_number(label, number);
     }
 }
 
