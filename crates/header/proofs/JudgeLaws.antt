@@ -8,7 +8,6 @@ use mathlib.Core.List.{List}
 use lib.Dec.{eqb}
 use Rattle.crc32.specs.Crc32.{crc32}
 use Rattle.layout.specs.declared.Layout.{Layout}
-use Rattle.layout.specs.declared.Opened.{Opened}
 use Rattle.layout.specs.declared.Opened.the-variants.{Accepted, Refused}
 use Rattle.header.specs.Header.{magicOf, fieldsOf, isHeaderBy, firstBroken, layoutOf, answer, judgeBy, judge}
 

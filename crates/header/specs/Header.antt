@@ -7,6 +7,7 @@ use lib.Dec.{leb, eqb}
 use lib.ListN.{length}
 use Rattle.numbers.specs.Numbers.{bigEndian, littleEndian}
 use Rattle.crc32.specs.Crc32.{crc32}
+use Rattle.layout.specs.Answer.{line}
 use Rattle.layout.specs.Rules.{standard, hidden, dataAreaRule}
 use Rattle.layout.specs.declared.Layout.{Layout}
 use Rattle.layout.specs.declared.Opened.{Opened}
@@ -83,10 +84,6 @@ hiddenSizeRule kind hiddenSize size =
 -- line 10, the data area, with the encrypted size E equal to V
 unfoldable pub areaRule : ℕ → ℕ → ℕ → ℕ → ℕ → Bool
 areaRule kind hostSize start size encryptedSize = eqb encryptedSize size && dataAreaRule kind hostSize start size
-
--- one line: its number where it is broken, else what the later lines say
-abbrev pub line : ℕ → Bool → ℕ → ℕ
-line number kept later = cond kept later number
 
 -- the first line that a header breaks, 0 where it keeps them all: for a kind and a host size
 unfoldable pub firstBroken : ℕ → ℕ → ℕ → Fields → List ℕ → ℕ

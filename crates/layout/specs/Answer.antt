@@ -1,5 +1,6 @@
--- What an answer of opening says, in document 01's numbers. Assumes nothing.
+-- What an answer says, in document 01's numbers. Assumes nothing.
 use Prim.Native.Nat.{ℕ}
+use mathlib.Core.Bool.{Bool, cond}
 use Rattle.layout.specs.declared.Opened.{Opened}
 use Rattle.layout.specs.declared.Opened.the-variants.{Accepted, Refused}
 
@@ -7,3 +8,7 @@ use Rattle.layout.specs.declared.Opened.the-variants.{Accepted, Refused}
 unfoldable pub numberOf : Opened → ℕ
 numberOf (Accepted layout) = 0
 numberOf (Refused number) = number
+
+-- one check of several in order: its number where it is not kept, else what the later ones say
+abbrev pub line : ℕ → Bool → ℕ → ℕ
+line number kept later = cond kept later number

@@ -2,7 +2,7 @@
 -- Assumes nothing.
 use Prim.Native.Nat.{ℕ, suc, _+_, _*_, _≤_, _<_}
 use native.Mathlib.Omega.{arith}
-use mathlib.Core.Path.{_≡_, refl, ap}
+use mathlib.Core.Path.{_≡_, refl}
 use mathlib.Core.Bool.{Bool, true, false, _&&_, cond}
 use mathlib.Core.List.{List, [], _∷_}
 use lib.Dec.{leb, eqb}
@@ -14,7 +14,7 @@ use Rattle.layout.specs.declared.Opened.{Opened}
 use Rattle.layout.specs.declared.Opened.the-variants.{Accepted, Refused}
 use Rattle.layout.proofs.RuleLaws.{and-true-left, and-true-right}
 use Rattle.header.specs.Header.{headerBytes, judge}
-use Rattle.header.proofs.JudgeLaws.{refused-accepted, accepted-one, judge-candidate}
+use Rattle.header.proofs.JudgeLaws.{refused-accepted, judge-candidate}
 use Rattle.opening.specs.Locations.{locationOf}
 use Rattle.opening.specs.Opening.{maxCandidates, lengthsRule, codesRule, candidateAt, judgements, firstRefusal, searchFrom, opened}
 

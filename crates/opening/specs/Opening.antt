@@ -5,9 +5,8 @@ use mathlib.Core.Path.{_≡_}
 use mathlib.Core.Bool.{Bool, true, _&&_, cond}
 use mathlib.Core.List.{List, [], _∷_}
 use lib.Dec.{leb, eqb}
-use lib.ListN.{length, take, drop}
+use lib.ListN.{length}
 use Rattle.layout.specs.Rules.{hostSizeRule}
-use Rattle.layout.specs.declared.Layout.{Layout}
 use Rattle.layout.specs.declared.Opened.{Opened}
 use Rattle.layout.specs.declared.Opened.the-variants.{Accepted, Refused}
 use Rattle.header.specs.Bytes.{part}
@@ -67,7 +66,7 @@ unfoldable pub keysSize : Opened → ℕ
 keysSize (Accepted layout) = 256
 keysSize (Refused number) = 0
 
--- the key bytes: what they hold, and that they are that part of the candidates itself: its block, and its offset there
-pub record KeyBytes (answer : Opened) (candidates : List ℕ) (lent : ℕ × ℕ) (keys : List ℕ) (returned : ℕ × ℕ) : Type 0 where
+-- the key bytes: what they hold, and that they are that part of the candidates itself, at its address: block, and offset there
+pub record KeyBytes (answer : Opened) (candidates : List ℕ) (borrowed : ℕ × ℕ) (keys : List ℕ) (returned : ℕ × ℕ) : Type 0 where
   pub content : keys ≡ part (keysOffset answer) (keysSize answer) candidates
-  pub place : returned ≡ (lent .0, keysOffset answer + lent .1)
+  pub address : returned ≡ (borrowed .0, keysOffset answer + borrowed .1)

@@ -2,12 +2,11 @@
 // Assumes nothing; no public function has a `requires`.
 ghost use mathlib.Core.Path.{_≡_};
 ghost use mathlib.Core.Bool.{true};
-ghost use Prim.Native.Nat.{_+_, _*_, _≤_, _<_};
+ghost use Prim.Native.Nat.{_*_, _≤_};
 ghost use lib.ListN.{length};
 ghost use denote.Ref.{ptr};
 ghost use Rattle.crc32.specs.Crc32.{crcTable};
-ghost use Rattle.header.specs.Bytes.{part};
-ghost use Rattle.opening.specs.Locations.{locations, located, locationOf};
+ghost use Rattle.opening.specs.Locations.{located};
 ghost use Rattle.opening.specs.Opening.{lengthsRule, codesRule, judgements, firstRefusal, searchFrom, opened, KeyBytes};
 use header::KEYS;
 use header::KEYS_SIZE;

@@ -1,6 +1,5 @@
 -- `header::checksums_match` meets its contract: the keys' checksum first, then the fields'.
 -- Assumes nothing.
-use mathlib.Core.Path.{sym, _∙_}
 use borrow.Author.Tests.{eq-eqb, ne-eqb}
 use Rattle.header.specs.Header.{checksumsMatch}
 use borrow.Author.Needs.{needs}

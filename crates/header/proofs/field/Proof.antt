@@ -1,12 +1,6 @@
 -- `header::field` meets its contract: the part has at most eight bytes, so what is read is the number itself.
 -- Assumes nothing.
-use Rattle.numbers.specs.Numbers.{bigEndian}
-use Rattle.header.specs.Bytes.{part}
-use denote.Ref.{now}
-use lib.ListN.{length, length-take}
-use Prim.Native.Nat.{ℕ, _≤_}
-use mathlib.Core.Path.{ap, _∙_}
-use lib.ListN.{take, drop}
+use lib.ListN.{length-take}
 use native.Mathlib.Nat.{add-sub-cancel-left}
 use native.Mathlib.Omega.{arith}
 use borrow.Author.Needs.{needs}

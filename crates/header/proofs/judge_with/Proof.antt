@@ -1,6 +1,6 @@
 -- `header::judge_with` meets its contract: no header by its length, its magic or its checksums, or judged by the first line it breaks.
 -- Assumes nothing.
-use mathlib.Core.Path.{_≡_, sym, _∙_, ap}
+use mathlib.Core.Path.{sym, _∙_}
 use borrow.Author.Tests.{eq-eqb, ne-eqb, le-leb, lt-leb, not-true, not-false}
 use Rattle.header.specs.Header.{judgeBy, isHeaderBy, answer}
 use borrow.Author.Needs.{needs}

@@ -1,6 +1,6 @@
 -- `layout::ends_before_backups` meets its contract: a sum that wraps is past every host, and one that does not is the sum of the rule.
 -- Assumes nothing.
-use Prim.Native.Nat.{_+_, _-_, _≤_, _<_}
+use Prim.Native.Nat.{_+_, _-_, _<_}
 use native.Mathlib.Omega.{arith}
 use borrow.Author.Needs.{needs}
 use borrow.Author.Tests.{lt-leb}

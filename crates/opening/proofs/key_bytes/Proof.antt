@@ -6,7 +6,7 @@ use native.Mathlib.Nat.{zero-add, add-sub-cancel-left}
 use native.Mathlib.Omega.{arith}
 use lib.ListN.{length}
 use denote.Ref.{now, ptr}
-use Rattle.layout.specs.declared.Opened.the-variants.{Accepted, Refused}
+use Rattle.layout.specs.declared.Opened.the-variants.{Accepted}
 use Rattle.header.specs.Header.{headerBytes}
 use Rattle.opening.specs.Opening.{maxCandidates, opened, keysOffset, keysSize}
 use Rattle.opening.proofs.OpenedLaws.{opened-inside}
@@ -38,7 +38,7 @@ returns : tie.Need-returns
 unfolding keysOffset keysSize
 returns c =
     rw (sym (c .before .before .before .«open» .ensures) ∙ c .before .enum-told .given .1)
-    (record { content = refl; place = ap (λ (n : ℕ). (ptr (c .before .before .before .before .before .before .args .candidates) .0, n)) (sym (zero-add (ptr (c .before .before .before .before .before .before .args .candidates) .1))) })
+    (record { content = refl; address = ap (λ (n : ℕ). (ptr (c .before .before .before .before .before .before .args .candidates) .0, n)) (sym (zero-add (ptr (c .before .before .before .before .before .before .args .candidates) .1))) })
 
 mul-keys : tie.Need-mul-keys
 mul-keys c = record { fits = omega (arith, inside c .0, inside c .1) }
@@ -60,7 +60,7 @@ part-result-end c = omega (arith, inside c .0, inside c .1)
 
 returns-2 : tie.Need-returns-2
 unfolding keysOffset keysSize
-returns-2 c = rw (accepted (c .before)) (record { content = simp add-sub-cancel-left; place = refl })
+returns-2 c = rw (accepted (c .before)) (record { content = simp add-sub-cancel-left; address = refl })
 
 pub key-bytes-spec : {M : Type 1} → statement M
 key-bytes-spec =

@@ -1,13 +1,11 @@
 -- `opening::locate` meets its contract: the constant table is the list of the definition, and no distance is past the smallest host's size.
 -- Assumes nothing.
-use Prim.Native.Nat.{_≤_}
 use mathlib.Core.Path.{_≡_}
 use mathlib.Core.Bool.{true}
 use lib.Dec.{lit≤}
 use Rattle.layout.specs.Rules.{hostSizeRule}
 use mathlib.Core.Path.{sym, _∙_}
 use native.Mathlib.Nat.{le-trans}
-use native.Mathlib.Omega.{arith}
 use borrow.Author.Tests.{le-leb, lt-leb, not-true, not-false}
 use Rattle.layout.proofs.RuleLaws.{host-size-least}
 use Rattle.opening.specs.Locations.{located, codeRule, locationOf, locations, offsetFrom}

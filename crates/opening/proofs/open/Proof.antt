@@ -4,7 +4,6 @@ use mathlib.Core.Path.{_≡_, sym, _∙_}
 use mathlib.Core.Bool.{true}
 use denote.Ref.{now}
 use borrow.Author.Tests.{not-true, not-false}
-use Rattle.layout.specs.Rules.{hostSizeRule}
 use Rattle.opening.specs.Opening.{lengthsRule, codesRule, opened}
 use Rattle.opening.proofs.OpenedLaws.{lengths-most, lengths-whole}
 use borrow.Author.Needs.{needs}

@@ -5,7 +5,7 @@ use Rattle.crc32.proofs.Crc32Laws.{table-crc-is-crc32}
 use Rattle.header.specs.Header.{judge}
 use Rattle.opening.specs.Locations.{locationOf, locations}
 use Rattle.opening.specs.Opening.{candidateAt}
-use Prim.Native.Nat.{ℕ, _≤_, _<_, _-_, _+_}
+use Prim.Native.Nat.{ℕ, _≤_, _-_, _+_}
 use mathlib.Core.Path.{_≡_, sym, _∙_, ap}
 use native.Mathlib.Omega.{arith}
 use borrow.Author.Needs.{needs}

@@ -5,9 +5,9 @@ use mathlib.Core.List.{List}
 use native.Mathlib.Omega.{arith}
 use Rattle.sector_map.specs.declared.Mapped.{Mapped}
 use Rattle.sector_map.specs.declared.Tweak.{Tweak}
-use Rattle.sector_map.specs.declared.Mapped.the-variants.{Number, Refused}
-use mathlib.Core.Path.{refl, ap}
-use mathlib.Core.Path.{_≡_, sym, _∙_}
+use Rattle.sector_map.specs.declared.Mapped.the-variants.{Number}
+use mathlib.Core.Path.{ap}
+use mathlib.Core.Path.{sym, _∙_}
 use Rattle.numbers.proofs.WrittenLaws.{little-endian-bytes-pad}
 use Rattle.sector_map.specs.SectorMap.{tweakOf, blockOf}
 use borrow.Author.Needs.{needs}
