@@ -2,12 +2,10 @@
 -- A layout that opening accepted is sound. Assumes nothing.
 use Prim.Native.Nat.{ℕ, _-_, _/_}
 use native.Mathlib.Omega.{arith}
-use mathlib.Core.Path.{_≡_, refl, _∙_, ap}
+use mathlib.Core.Path.{refl, _∙_, ap}
 use mathlib.Core.List.{List}
 use lib.ListN.{getD}
 use Rattle.layout.specs.declared.Layout.{Layout}
-use Rattle.layout.specs.declared.Opened.the-variants.{Accepted}
-use Rattle.opening.specs.Opening.{opened}
 use Rattle.sector_map.specs.SectorMap.{sectors, sectorCount, hostSector, userSector, tweakNumber, blockOf, tweakOf}
 use Rattle.sector_map.specs.declared.Mapped.the-variants.{Number}
 use Rattle.guarantees.specs.Header.{dataArea, Keeps}

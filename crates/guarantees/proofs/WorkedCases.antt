@@ -11,7 +11,10 @@ use Rattle.header.specs.Header.{versionRule, reservedRule, flagsRule, sectorSiz
 use Rattle.opening.specs.Locations.{locations, locationOf, codeRule}
 use Rattle.opening.specs.Opening.{lengthsRule, codesRule, candidateAt, judgements, firstRefusal, searchFrom, opened}
 use Rattle.sector_map.specs.SectorMap.{sectors, firstSector, hostSector, userSector, tweakNumber, blockOf, tweakOf}
-use Rattle.guarantees.specs.WorkedCases.{bytesOf, fieldBytes, headerWith, shown, opens, volumeM, volumeN, mappedShown, tweakShown, cases, AsWorked}
+use Rattle.view.specs.Access.{checked, extentStart, touches, readNumber, writeNumber, after}
+use Rattle.view.specs.Views.{areaEnd, protectionRule, soundView, plainOf, protectedOf, nests, plainView, protectedView}
+use Rattle.guarantees.specs.WorkedCases.{bytesOf, fieldBytes, headerWith, shown, opens, volumeM, volumeN, mappedShown, tweakShown}
+use Rattle.guarantees.specs.WorkedCases.{onView, writing, reading, leaving, cases, AsWorked}
 
 pub as-worked : AsWorked
 unfolding AsWorked cases opens shown headerWith fieldBytes bytesOf volumeM volumeN mappedShown tweakShown
@@ -20,4 +23,6 @@ unfolding AsWorked cases opens shown headerWith fieldBytes bytesOf volumeM volum
     firstBroken versionRule reservedRule flagsRule sectorSizeRule hiddenSizeRule areaRule dataAreaRule startRule endRule
     crc32 crcFrom bitStep bitSteps bigEndian bigEndianFrom littleEndian
     hostSector userSector tweakNumber tweakOf blockOf sectors firstSector sound littleEndianBytes
+    onView writing reading leaving plainView protectedView plainOf protectedOf nests areaEnd protectionRule soundView
+    checked extentStart touches readNumber writeNumber after
 as-worked = refl

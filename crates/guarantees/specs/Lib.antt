@@ -1,4 +1,7 @@
 pub mod Header
+pub mod Interleaving
 pub mod Opening
+pub mod ReferenceModel
 pub mod SectorMap
+pub mod Views
 pub mod WorkedCases

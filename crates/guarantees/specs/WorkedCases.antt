@@ -1,5 +1,5 @@
 -- Document 01's starred cases, in one table, computed from the definitions that the contracts cite. Assumes nothing.
-use Prim.Native.Nat.{ℕ, zero, suc, _-_, _/_, _%_, _^_}
+use Prim.Native.Nat.{ℕ, zero, suc, _-_, _*_, _/_, _%_, _^_}
 use mathlib.Core.Path.{_≡_}
 use mathlib.Core.List.{List, [], _∷_, _++_, map}
 use lib.ListN.{replicate}
@@ -13,22 +13,28 @@ use Rattle.sector_map.specs.SectorMap.{hostSector, userSector, tweakOf}
 use Rattle.sector_map.specs.declared.Mapped.{Mapped}
 use Rattle.sector_map.specs.declared.Mapped.the-variants as mapped
 use Rattle.sector_map.specs.declared.Tweak.{Tweak}
+use Rattle.view.specs.Access.{readNumber, writeNumber, after}
+use Rattle.view.specs.Views.{plainView, protectedView}
+use Rattle.view.specs.declared.View.{View}
+use Rattle.view.specs.declared.Viewed.{Viewed}
+use Rattle.view.specs.declared.Viewed.the-variants as viewed
 
 -- a number as k bytes, the most significant first
 unfoldable pub bytesOf : ℕ → ℕ → List ℕ
 bytesOf zero n = []
 bytesOf (suc k) n = bytesOf k (n / 256) ++ (n % 256 ∷ [])
 
--- the fields of a version 5 TRUE header for a standard volume that starts at 131,072, from its magic to its last reserved byte
-unfoldable pub fieldBytes : ℕ → ℕ → List ℕ
-fieldBytes size encryptedSize =
-    trueMagic ++ bytesOf 2 5 ++ (7 ∷ 0 ∷ []) ++ bytesOf 4 (crc32 (replicate 256 0)) ++ replicate 16 0 ++ bytesOf 8 0 ++ bytesOf 8 size
+-- the fields of a version 5 TRUE header for a standard volume that starts at 131,072, from its magic to its last reserved byte: for the
+-- keys' checksum, V and E
+unfoldable pub fieldBytes : ℕ → ℕ → ℕ → List ℕ
+fieldBytes keyChecksum size encryptedSize =
+    trueMagic ++ bytesOf 2 5 ++ (7 ∷ 0 ∷ []) ++ bytesOf 4 keyChecksum ++ replicate 16 0 ++ bytesOf 8 0 ++ bytesOf 8 size
     ++ bytesOf 8 131072 ++ bytesOf 8 encryptedSize ++ bytesOf 4 0 ++ bytesOf 4 512 ++ replicate 120 0
 
 -- the header: a salt, the fields, their checksum and the keys; salt and keys are zeros
-unfoldable pub headerWith : ℕ → ℕ → List ℕ
-headerWith size encryptedSize =
-    let fields = fieldBytes size encryptedSize in
+unfoldable pub headerWith : ℕ → ℕ → ℕ → List ℕ
+headerWith keyChecksum size encryptedSize =
+    let fields = fieldBytes keyChecksum size encryptedSize in
     replicate 64 0 ++ fields ++ bytesOf 4 (crc32 fields) ++ replicate 256 0
 
 -- what a case shows of opening: the refusal number, or 0 and the count of sectors
@@ -36,9 +42,9 @@ unfoldable pub shown : Opened → List ℕ
 shown (Accepted layout) = 0 ∷ layout .«data_size» / 512 ∷ []
 shown (Refused number) = number ∷ []
 
--- opening at code 0 with one such header, for S, V and E
-unfoldable pub opens : ℕ → ℕ → ℕ → List ℕ
-opens hostSize size encryptedSize = shown (opened (headerWith size encryptedSize) (0 ∷ []) hostSize)
+-- opening at code 0 with one header, for S
+unfoldable pub opens : ℕ → List ℕ → List ℕ
+opens hostSize header = shown (opened header (0 ∷ []) hostSize)
 
 -- document 01's M, a standard volume
 unfoldable pub volumeM : Layout
@@ -77,6 +83,22 @@ mappedShown (mapped.Refused number) = number ∷ []
 unfoldable pub tweakShown : Tweak → List ℕ
 tweakShown tweak = mappedShown (tweak .number) ++ tweak .block
 
+-- the refusal number of a call on a view that was made, 0 for accepted
+unfoldable pub onView : Viewed → (View → ℕ) → List ℕ
+onView (viewed.Made view) number = number view ∷ []
+onView (viewed.Refused number) other = []
+
+-- the number of a write, and of a read, on an image of M's size with a buffer of the extent's
+unfoldable pub writing : ℕ → ℕ → View → ℕ
+writing first count view = writeNumber view 1048576 first count (count * 512)
+
+unfoldable pub reading : ℕ → ℕ → View → ℕ
+reading first count view = readNumber view 1048576 first count (count * 512)
+
+-- the view that a write leaves
+unfoldable pub leaving : ℕ → ℕ → View → View
+leaving first count view = after view (writing first count view)
+
 -- a case: what the definitions answer, and what document 01 says
 pub record Case : Type 0 where
   pub answer : List ℕ
@@ -85,16 +107,16 @@ pub record Case : Type 0 where
 -- the table
 unfoldable pub cases : List Case
 cases =
+    let keyChecksum = crc32 (replicate 256 0) in
+    let oneSector = headerWith keyChecksum 512 512 in
     -- S 262,656, V 512: accepted, one sector
-    record { answer = opens 262656 512 512; expected = 0 ∷ 1 ∷ [] }
+    record { answer = opens 262656 oneSector; expected = 0 ∷ 1 ∷ [] }
     -- S 262,144: 3
-    ∷ record { answer = opens 262144 512 512; expected = 3 ∷ [] }
-    -- M itself: S 1,048,576, V 786,432
-    ∷ record { answer = opens 1048576 786432 786432; expected = 0 ∷ 1536 ∷ [] }
+    ∷ record { answer = opens 262144 oneSector; expected = 3 ∷ [] }
     -- V 786,944 in M's place: 10
-    ∷ record { answer = opens 1048576 786944 786944; expected = 10 ∷ [] }
+    ∷ record { answer = opens 1048576 (headerWith keyChecksum 786944 786944); expected = 10 ∷ [] }
     -- V and E 2^64-512: 10
-    ∷ record { answer = opens 1048576 (2 ^ 64 - 512) (2 ^ 64 - 512); expected = 10 ∷ [] }
+    ∷ record { answer = opens 1048576 (headerWith keyChecksum (2 ^ 64 - 512) (2 ^ 64 - 512)); expected = 10 ∷ [] }
     -- M sector 0 has tweak 256, block 00 01 and fourteen zeros
     ∷ record { answer = tweakShown (tweakOf volumeM 0); expected = 0 ∷ 256 ∷ 0x00 ∷ 0x01 ∷ replicate 14 0 }
     -- M sector 1,535 has tweak 1,791, block FF 06 and fourteen zeros
@@ -106,6 +128,16 @@ cases =
     -- back: host sector 255: 16; 256 gives 0 in M
     ∷ record { answer = mappedShown (userSector volumeM 255); expected = 16 ∷ [] }
     ∷ record { answer = mappedShown (userSector volumeM 256); expected = 0 ∷ 0 ∷ [] }
+    -- M protecting N: write 1,023 count 1 accepted; count 2: 18
+    ∷ record { answer = onView (protectedView volumeM volumeN) (writing 1023 1); expected = 0 ∷ [] }
+    ∷ record { answer = onView (protectedView volumeM volumeN) (writing 1023 2); expected = 18 ∷ [] }
+    -- after that 18, write 0 count 1: 17; read 0 count 1 accepted
+    ∷ record { answer = onView (protectedView volumeM volumeN) (λ view. writing 0 1 (leaving 1023 2 view)); expected = 17 ∷ [] }
+    ∷ record { answer = onView (protectedView volumeM volumeN) (λ view. reading 0 1 (leaving 1023 2 view)); expected = 0 ∷ [] }
+    -- plain view of M: write 1,536 count 0 accepted, count 1: 16; 1,537 count 0: 16
+    ∷ record { answer = onView (plainView volumeM) (writing 1536 0); expected = 0 ∷ [] }
+    ∷ record { answer = onView (plainView volumeM) (writing 1536 1); expected = 16 ∷ [] }
+    ∷ record { answer = onView (plainView volumeM) (writing 1537 0); expected = 16 ∷ [] }
     ∷ []
 
 -- every case is as document 01 says

@@ -1,0 +1,30 @@
+-- In the model each sector ends with the last accepted write that covers it, or as it began,
+-- and an accepted read gives each sector as the accepted writes before it left it. Assumes nothing.
+use Prim.Native.Nat.{ℕ}
+use mathlib.Core.Path.{_≡_, refl, ap, fun-ext}
+use mathlib.Core.Bool.{false}
+use mathlib.Core.List.{List, [], _∷_}
+use Rattle.layout.specs.declared.Layout.{Layout}
+use Rattle.view.specs.Views.{protectedOf, protectedView}
+use Rattle.view.specs.declared.Viewed.the-variants.{Made}
+use Rattle.guarantees.specs.ReferenceModel.{reads, Turn, Model, sectorAt, gather, hostsOf, bufferAfter, reply, next, final, replies}
+use Rattle.guarantees.specs.Interleaving.{contents}
+use Rattle.guarantees.proofs.NextLaws.{sector-next}
+
+module _ (outerLayout innerLayout : Layout) (made : protectedView outerLayout innerLayout ≡ Made (protectedOf outerLayout innerLayout false)) where
+  pub model-last-write : (turns : List Turn) (model : Model) (host : ℕ) → sectorAt host (final outerLayout innerLayout turns model .image)
+      ≡ contents outerLayout innerLayout host turns (replies outerLayout innerLayout turns model) (sectorAt host (model .image))
+  unfolding final replies contents reply
+  model-last-write [] model host = refl
+  model-last-write (turn ∷ turns) model host =
+      rw (← sector-next outerLayout innerLayout made turn model host) (model-last-write turns (next outerLayout innerLayout turn model) host)
+
+  pub model-reads-left : (before : List Turn) (call : Turn) (model : Model) → call .call .kind ≡ reads
+      → reply outerLayout innerLayout call (final outerLayout innerLayout before model) .answer ≡ 0
+      → reply outerLayout innerLayout call (final outerLayout innerLayout before model) .buffer
+      ≡ gather (λ host. contents outerLayout innerLayout host before (replies outerLayout innerLayout before model) (sectorAt host (model .image)))
+      (hostsOf outerLayout innerLayout call)
+  unfolding reply bufferAfter hostsOf
+  model-reads-left before call model kind answer =
+      rw (answer, kind)
+      (ap (λ f. gather f (hostsOf outerLayout innerLayout call)) (fun-ext (λ host. model-last-write before model host)))

@@ -1,0 +1,52 @@
+-- Every run is the reference model's, and every list of calls has a run.
+-- Assumes nothing.
+use Prim.Native.Nat.{ℕ}
+use mathlib.Core.Path.{_≡_, refl, ap, ap₂}
+use mathlib.Core.Bool.{Bool, false}
+use mathlib.Core.List.{List, [], _∷_}
+use Rattle.layout.specs.declared.Layout.{Layout}
+use Rattle.view.specs.Views.{protectedOf, protectedView}
+use Rattle.view.specs.declared.Viewed.the-variants.{Made}
+use Rattle.guarantees.specs.Interleaving.{State, Run, done, step, start, modelStart, Agrees}
+use Rattle.guarantees.specs.ReferenceModel.{Turn, Reply, Model, next, final, replies}
+use Rattle.guarantees.proofs.NestLaws.{Nest, made-nests}
+use Rattle.guarantees.proofs.StateLaws.{stateOf}
+use Rattle.guarantees.proofs.StepLaws.{step-agrees, step-exists}
+
+pub run-exists : (state : State) (turns : List Turn) → (answers : List Reply) × (last : State) × Run state turns answers last
+run-exists state [] = ([], state, done)
+run-exists state (call ∷ turns) =
+    let one = step-exists state call in
+    let rest = run-exists (one .1) turns in
+    (one .0 ∷ rest .0, rest .1, step (one .2) (rest .2))
+
+module _ (outerLayout innerLayout : Layout) where
+  -- .. from any model on
+  pub run-agrees-from : Nest outerLayout innerLayout → {state last : State} {turns : List Turn} {answers : List Reply} → Run state turns answers last
+      → (model : Model) → state ≡ stateOf outerLayout innerLayout model
+      → (answers ≡ replies outerLayout innerLayout turns model) × (last ≡ stateOf outerLayout innerLayout (final outerLayout innerLayout turns model))
+  unfolding replies final
+  run-agrees-from nest done model e = (refl, e)
+  run-agrees-from nest (step {call = call} one rest) model e =
+      let first = step-agrees outerLayout innerLayout nest one model e in
+      let others = run-agrees-from nest rest (next outerLayout innerLayout call model) (first .1) in
+      (ap₂ (λ answer answers. answer ∷ answers) (first .0) (others .0), others .1)
+
+  module _ (outerLocked hiddenLocked : Bool) (image : List ℕ) where
+    pub start-state-of : start outerLayout innerLayout outerLocked hiddenLocked image
+        ≡ stateOf outerLayout innerLayout (modelStart outerLayout innerLayout outerLocked hiddenLocked image)
+    unfolding start modelStart stateOf
+    start-state-of = refl
+
+    pub run-agrees : protectedView outerLayout innerLayout ≡ Made (protectedOf outerLayout innerLayout false)
+        → (turns : List Turn) (answers : List Reply) (last : State) → Run (start outerLayout innerLayout outerLocked hiddenLocked image) turns answers last
+        → Agrees outerLayout innerLayout outerLocked hiddenLocked image turns answers last
+    unfolding stateOf
+    run-agrees made turns answers last run =
+        let agrees = run-agrees-from (made-nests outerLayout innerLayout made) run (modelStart outerLayout innerLayout outerLocked hiddenLocked image) start-state-of in
+        record {
+          sameReplies = agrees .0;
+          sameImage = ap (λ state. state .image) (agrees .1);
+          sameOuter = ap (λ state. state .outerView) (agrees .1);
+          sameHidden = ap (λ state. state .hiddenView) (agrees .1);
+        }

@@ -1,0 +1,68 @@
+-- The state of a model: the two views with its locks, and its image. What the views are on either side, and what a call on one makes of it.
+-- Assumes nothing.
+use Prim.Native.Nat.{ℕ}
+use mathlib.Core.Path.{_≡_, refl}
+use mathlib.Core.Bool.{Bool, true, cond}
+use mathlib.Core.List.{List}
+use lib.Dec.{eqb}
+use Rattle.layout.specs.declared.Layout.{Layout}
+use Rattle.view.specs.Access.{after}
+use Rattle.view.specs.Views.{soundView, plainOf, protectedOf}
+use Rattle.view.specs.declared.View.{View}
+use Rattle.guarantees.specs.Interleaving.{State, put, viewOf}
+use Rattle.guarantees.specs.ReferenceModel.{Side, outer, hidden, Model, lockOf, layoutOf, lockAfter}
+use Rattle.guarantees.specs.SectorMap.{Sound}
+use Rattle.guarantees.proofs.NestLaws.{Nest, sound-view-plain, sound-view-protected}
+
+module _ (outerLayout innerLayout : Layout) where
+  -- the view of a side, with its lock
+  unfoldable pub viewFor : Side → Bool → View
+  viewFor outer locked = protectedOf outerLayout innerLayout locked
+  viewFor hidden locked = plainOf innerLayout locked
+
+  -- the state of a model
+  unfoldable pub stateOf : Model → State
+  stateOf model =
+      record {
+        outerView = protectedOf outerLayout innerLayout (model .outerLocked);
+        hiddenView = plainOf innerLayout (model .hiddenLocked);
+        image = model .image;
+      }
+
+  pub view-of-state-of : (side : Side) (model : Model) → viewOf side (stateOf model) ≡ viewFor side (lockOf side model)
+  unfolding viewOf stateOf viewFor lockOf
+  view-of-state-of outer model = refl
+  view-of-state-of hidden model = refl
+
+  pub layout-view-for : (side : Side) (locked : Bool) → viewFor side locked .layout ≡ layoutOf outerLayout innerLayout side
+  unfolding viewFor layoutOf protectedOf plainOf
+  layout-view-for outer locked = refl
+  layout-view-for hidden locked = refl
+
+  pub after-view-for : (side : Side) (locked : Bool) (number : ℕ) → after (viewFor side locked) number ≡ viewFor side (cond (eqb number 18) true locked)
+  unfolding after viewFor protectedOf plainOf
+  after-view-for outer locked number = refl
+  after-view-for hidden locked number = refl
+
+  pub put-state-of : (side : Side) (number : ℕ) (image : List ℕ) (model : Model)
+      → put side (viewFor side (cond (eqb number 18) true (lockOf side model))) image (stateOf model)
+      ≡ stateOf
+      (record {
+        image = image;
+        outerLocked = lockAfter outerLayout innerLayout outer side number (model .outerLocked);
+        hiddenLocked = lockAfter outerLayout innerLayout hidden side number (model .hiddenLocked);
+      })
+  unfolding put stateOf viewFor lockOf lockAfter
+  put-state-of outer number image model = refl
+  put-state-of hidden number image model = refl
+
+  module _ (nest : Nest outerLayout innerLayout) where
+    pub sound-layout-of : (side : Side) → Sound (layoutOf outerLayout innerLayout side)
+    unfolding layoutOf
+    sound-layout-of outer = nest .outerSound
+    sound-layout-of hidden = nest .innerSound
+
+    pub sound-view-for : (side : Side) (locked : Bool) → soundView (viewFor side locked) ≡ true
+    unfolding viewFor
+    sound-view-for outer locked = sound-view-protected outerLayout innerLayout locked nest
+    sound-view-for hidden locked = sound-view-plain innerLayout locked (nest .innerSound)

@@ -1,0 +1,23 @@
+-- `view::answer_refusal` meets its contract, by the cases of the answer.
+-- Assumes nothing.
+use borrow.Author.Needs.{needs}
+use Rattle.view.specs.Access.{answerNumber}
+use Rattle.view.proofs.answer_refusal.Statement.{statement}
+use Rattle.view.proofs.answer_refusal.Tie as tie
+
+enum-told : tie.Need-enum-told
+enum-told c = search needs
+
+enum-known-answer : tie.Need-enum-known-answer
+enum-known-answer c = search needs
+
+returns : tie.Need-returns
+unfolding answerNumber
+returns c = search needs
+
+returns-2 : tie.Need-returns-2
+unfolding answerNumber
+returns-2 c = search needs
+
+pub answer-refusal-spec : {M : Type 1} → statement M
+answer-refusal-spec = tie.close (tie.spec enum-told enum-known-answer returns returns-2)

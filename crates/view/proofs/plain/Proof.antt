@@ -1,0 +1,22 @@
+-- `view::plain` meets its contract.
+-- Assumes nothing.
+use mathlib.Core.Path.{sym, _∙_}
+use borrow.Author.Tests.{not-true, not-false}
+use Rattle.view.specs.Views.{plainView, plainOf}
+use borrow.Author.Needs.{needs}
+use Rattle.view.proofs.plain.Statement.{statement}
+use Rattle.view.proofs.plain.Tie as tie
+
+is-sound-requires : tie.Need-is-sound-requires
+is-sound-requires c κs = search needs
+
+returns : tie.Need-returns
+unfolding plainView plainOf
+returns c = simp (sym (c .before .is-sound .ensures) ∙ not-true _ (c .if1 .taken))
+
+returns-2 : tie.Need-returns-2
+unfolding plainView plainOf
+returns-2 c = simp (sym (c .before .is-sound .ensures) ∙ not-false _ (c .if1 .left))
+
+pub plain-spec : {M : Type 1} → statement M
+plain-spec = tie.close (tie.spec is-sound-requires returns returns-2)

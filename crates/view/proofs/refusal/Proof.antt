@@ -1,0 +1,23 @@
+-- `view::refusal` meets its contract, by the cases of the answer.
+-- Assumes nothing.
+use borrow.Author.Needs.{needs}
+use Rattle.view.specs.Views.{viewedRefusal}
+use Rattle.view.proofs.refusal.Statement.{statement}
+use Rattle.view.proofs.refusal.Tie as tie
+
+enum-told : tie.Need-enum-told
+enum-told c = search needs
+
+enum-known-viewed : tie.Need-enum-known-viewed
+enum-known-viewed c = search needs
+
+returns : tie.Need-returns
+unfolding viewedRefusal
+returns c = search needs
+
+returns-2 : tie.Need-returns-2
+unfolding viewedRefusal
+returns-2 c = search needs
+
+pub refusal-spec : {M : Type 1} → statement M
+refusal-spec = tie.close (tie.spec enum-told enum-known-viewed returns returns-2)
