@@ -1,0 +1,124 @@
+"""Document 01's rules for opening and for the sector map, written from its text."""
+import zlib
+
+
+def number(h, offset, size):
+    return int.from_bytes(h[offset:offset + size], 'big')
+
+
+def is_host_size(host_size):
+    return host_size % 512 == 0 and 262_656 <= host_size <= 2**50
+
+
+def is_data_area(is_hidden, host_size, data_start, data_size):
+    """The last header line, with E taken as V."""
+    return (data_size >= 512 and data_size % 512 == 0 and data_start % 512 == 0
+            and (data_start >= 131_072 if is_hidden else data_start == 131_072)
+            and data_start + data_size <= host_size - 131_072)
+
+
+def is_header(h):
+    return (h[64:68] in (b'VERA', b'TRUE')
+            and zlib.crc32(h[256:512]) == number(h, 72, 4)
+            and zlib.crc32(h[64:252]) == number(h, 252, 4))
+
+
+def first_broken(h, code, host_size):
+    """The number of the first line that a header breaks, None where it keeps them all."""
+    is_vera, is_hidden = h[64:68] == b'VERA', code in (1, 3)
+    version, flags, sector_size = number(h, 68, 2), number(h, 124, 4), number(h, 128, 4)
+    hidden_size, data_size = number(h, 92, 8), number(h, 100, 8)
+    data_start, encrypted_size = number(h, 108, 8), number(h, 116, 8)
+    lines = [
+        (5, 2 <= version <= 5 if is_vera else 4 <= version <= 5),
+        (6, flags & 0xFFFF_FFFC == 0 and not (is_vera and any(h[76:92] + h[132:252]))),
+        (7, flags & 3 == 0),
+        (8, sector_size == 512),
+        (9, hidden_size != 0 and hidden_size == data_size if is_hidden else hidden_size == 0),
+        (10, encrypted_size == data_size and is_data_area(is_hidden, host_size, data_start, data_size)),
+    ]
+    return next((refusal for refusal, kept in lines if not kept), None)
+
+
+def open_volume(host_size, codes, candidates):
+    """A refusal number, or the layout: its eight numbers by name, in the order they are printed."""
+    if not 1 <= len(codes) <= 64 or len(candidates) != 512 * len(codes):
+        return 1
+    if max(codes) > 3:
+        return 2
+    if not is_host_size(host_size):
+        return 3
+    refusals = []
+    for index, code in enumerate(codes):
+        h = candidates[512 * index:512 * index + 512]
+        if not is_header(h):
+            continue
+        broken = first_broken(h, code, host_size)
+        if broken is None:
+            return {
+                'host_size': host_size,
+                'kind': code % 2,
+                'magic': int(h[64:68] == b'TRUE'),
+                'version': number(h, 68, 2),
+                'min_program_version': h[70] + 256 * h[71],
+                'data_start': number(h, 108, 8),
+                'data_size': number(h, 100, 8),
+                'candidate': index,
+            }
+        refusals.append(broken)
+    return refusals[0] if refusals else 4
+
+
+def locate(code, host_size):
+    """A header's offset, or the refusal, as text."""
+    if code > 3:
+        return 'refused 2'
+    if not is_host_size(host_size):
+        return 'refused 3'
+    return str([0, 65_536, host_size - 131_072, host_size - 65_536][code])
+
+
+def is_sound(layout):
+    return (layout['kind'] in (0, 1) and is_host_size(layout['host_size'])
+            and is_data_area(layout['kind'] == 1, layout['host_size'], layout['data_start'], layout['data_size']))
+
+
+def sector_count(layout):
+    """A number, or the refusal as text; so too below."""
+    return layout['data_size'] // 512 if is_sound(layout) else 'refused 11'
+
+
+def host_sector(layout, user):
+    if not is_sound(layout):
+        return 'refused 11'
+    return layout['data_start'] // 512 + user if user < sector_count(layout) else 'refused 16'
+
+
+def user_sector(layout, host):
+    if not is_sound(layout):
+        return 'refused 11'
+    first = layout['data_start'] // 512
+    return host - first if host in range(first, first + sector_count(layout)) else 'refused 16'
+
+
+def tweak_block(tweak):
+    """The sixteen bytes of a tweak number, zeros for a refusal."""
+    return tweak.to_bytes(16, 'little') if isinstance(tweak, int) else bytes(16)
+
+
+def map_output(data):
+    """What the map program prints for an input."""
+    answer = open_volume(int.from_bytes(data[:8], 'big'), data[8:9], data[9:]) if len(data) == 521 else 1
+    if isinstance(answer, int):
+        return f'refused {answer}\n'
+    first, sectors = answer['data_start'] // 512, answer['data_size'] // 512
+    return (f"mark {['VERA', 'TRUE'][answer['magic']]}\n"
+            f"version {answer['version']}\n"
+            f"needs {answer['min_program_version']}\n"
+            f"kind {['standard', 'hidden'][answer['kind']]}\n"
+            f"host {answer['host_size']}\n"
+            f"start {answer['data_start']}\n"
+            f"size {answer['data_size']}\n"
+            f"sectors {sectors}\n"
+            f"first {first}\n"
+            f"last {first + sectors - 1}\n")
