@@ -9,9 +9,9 @@ use lib.ListN.{length}
 use borrow.Author.Tests.{eqb-true}
 use Rattle.layout.specs.declared.Layout.{Layout}
 use Rattle.view.specs.Access.{ReadPost, WritePost, answered, answerNumber, after, readNumber, writeNumber}
-use Rattle.view.specs.declared.Answer.the-variants.{Accepted, Refused}
 use Rattle.view.specs.declared.Outcome.{Outcome}
 use Rattle.view.specs.declared.View.{View}
+use Rattle.view.proofs.AccessLaws.{answer-number-answered}
 use Rattle.guarantees.specs.Interleaving.{State, put, turn, seen, Step, aRead, aWrite}
 use Rattle.guarantees.specs.ReferenceModel.{Side, Kind, reads, writes, Turn, Reply, Model, lockOf, layoutOf, hostsOf}
 use Rattle.guarantees.specs.ReferenceModel.{bufferAfter, imageAfter, reply, next}
@@ -19,14 +19,6 @@ use Rattle.guarantees.proofs.CheckLaws.{numbered, judged-fits, judged-r
 use Rattle.guarantees.proofs.ExtentLaws.{gather-extent, lay-extent}
 use Rattle.guarantees.proofs.NestLaws.{Nest}
 use Rattle.guarantees.proofs.StateLaws.{viewFor, stateOf, view-of-state-of, layout-view-for, after-view-for, put-state-of, sound-layout-of}
-
-answer-number-answered : (n : ℕ) → answerNumber (answered n) ≡ n
-unfolding answerNumber answered
-answer-number-answered n = go (eqb n 0) refl
-  where
-    go : (b : Bool) → eqb n 0 ≡ b → answerNumber (cond b Accepted (Refused n)) ≡ n
-    go true e = sym (eqb-true n 0 e)
-    go false e = refl
 
 cond-zero : (n : ℕ) (x y z : List ℕ) → (n ≡ 0 → x ≡ y) → cond (eqb n 0) x z ≡ cond (eqb n 0) y z
 cond-zero n x y z f = go (eqb n 0) refl

@@ -2,8 +2,8 @@
 -- Assumes nothing.
 use Prim.Native.Nat.{ℕ, suc, _+_, _*_, _≤_}
 use native.Mathlib.Omega.{arith}
-use mathlib.Core.Path.{_≡_, refl}
-use mathlib.Core.Bool.{Bool, true, false, not}
+use mathlib.Core.Path.{_≡_, refl, sym}
+use mathlib.Core.Bool.{Bool, true, false, not, cond}
 use lib.Dec.{leb, eqb}
 use borrow.Author.Tests.{leb-true, eqb-true, le-leb, eq-eqb}
 use Rattle.layout.specs.Answer.{line}
@@ -11,8 +11,9 @@ use Rattle.layout.specs.Rules.{sectorBytes, maxHostSize}
 use Rattle.layout.specs.Soundness.{sound}
 use Rattle.layout.proofs.RuleLaws.{and-true-left, host-size-most, sound-host-size, sound-ends}
 use Rattle.sector_map.specs.SectorMap.{sectors}
+use Rattle.view.specs.declared.Answer.the-variants.{Accepted, Refused}
 use Rattle.view.specs.declared.View.{View}
-use Rattle.view.specs.Access.{maxCount, extentStart, checked, touches, readNumber, writeNumber}
+use Rattle.view.specs.Access.{maxCount, extentStart, checked, touches, readNumber, writeNumber, answered, answerNumber}
 use Rattle.view.specs.Views.{protectionRule, soundView}
 
 -- a check that passes has no number
@@ -92,3 +93,12 @@ module _ (view : View) (imageSize first count bufferSize : ℕ) where
       let ends = sound-ends (view .layout) kept in
       let most = host-size-most (view .layout .«host_size») (sound-host-size (view .layout) kept) in
       (omega (arith, p .imageWhole, p .bufferWhole, p .inside), omega (arith, p .imageWhole))
+
+-- an answer's number is the one that it was made from
+pub answer-number-answered : (n : ℕ) → answerNumber (answered n) ≡ n
+unfolding answerNumber answered
+answer-number-answered n = go (eqb n 0) refl
+  where
+    go : (b : Bool) → eqb n 0 ≡ b → answerNumber (cond b Accepted (Refused n)) ≡ n
+    go true e = sym (eqb-true n 0 e)
+    go false e = refl

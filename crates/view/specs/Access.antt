@@ -68,18 +68,26 @@ after view number =
 unfoldable pub overlay : ℕ → List ℕ → List ℕ → List ℕ
 overlay offset bytes image = take offset image ++ bytes ++ drop (offset + length bytes) image
 
--- what a read leaves: the same view; the buffer filled with the extent's bytes, or as it was
+-- the buffer after a read: filled with the extent's bytes, or as it was
+abbrev pub filledBy : View → List ℕ → ℕ → ℕ → List ℕ → List ℕ
+filledBy view image first count buffer =
+    cond (eqb (readNumber view (length image) first count (length buffer)) 0)
+    (take (count * sectorBytes) (drop (extentStart (view .layout) first) image))
+    buffer
+
+-- the image after a write: the buffer laid over the extent's bytes, or as it was
+abbrev pub writtenBy : View → List ℕ → ℕ → ℕ → List ℕ → List ℕ
+writtenBy view image first count buffer =
+    cond (eqb (writeNumber view (length image) first count (length buffer)) 0) (overlay (extentStart (view .layout) first) buffer image) image
+
+-- what a read leaves: the same view, its answer, and the buffer
 pub record ReadPost (view : View) (image : List ℕ) (first count : ℕ) (buffer : List ℕ) (outcome : Outcome) (filled : List ℕ) : Type 0 where
   pub same : outcome .view ≡ view
   pub answers : outcome .answer ≡ answered (readNumber view (length image) first count (length buffer))
-  pub fills : filled
-      ≡ cond (eqb (readNumber view (length image) first count (length buffer)) 0)
-      (take (count * sectorBytes) (drop (extentStart (view .layout) first) image))
-      buffer
+  pub fills : filled ≡ filledBy view image first count buffer
 
--- what a write leaves: the view, locked by 18; the image with the buffer over the extent's bytes, or as it was
+-- what a write leaves: the view, locked by 18, its answer, and the image
 pub record WritePost (view : View) (image : List ℕ) (first count : ℕ) (buffer : List ℕ) (outcome : Outcome) (written : List ℕ) : Type 0 where
   pub back : outcome .view ≡ after view (writeNumber view (length image) first count (length buffer))
   pub answers : outcome .answer ≡ answered (writeNumber view (length image) first count (length buffer))
-  pub writes : written
-      ≡ cond (eqb (writeNumber view (length image) first count (length buffer)) 0) (overlay (extentStart (view .layout) first) buffer image) image
+  pub writes : written ≡ writtenBy view image first count buffer

@@ -1,0 +1,39 @@
+-- `ondristela::ondristela_read` meets its contract: the answer of the view that the numbers tell, as a number.
+-- Assumes nothing.
+use mathlib.Core.Path.{sym, ap, _∙_}
+use Rattle.view.specs.Access.{answerNumber}
+use Rattle.view.proofs.AccessLaws.{answer-number-answered}
+use borrow.Author.Needs.{needs}
+use Rattle.ondristela.proofs.ondristela_read.Statement.{statement}
+use Rattle.ondristela.proofs.ondristela_read.Tie as tie
+
+view-of-requires : tie.Need-view-of-requires
+view-of-requires c κs = search needs
+
+read-requires : tie.Need-read-requires
+read-requires c κs = search needs
+
+answer-refusal-requires : tie.Need-answer-refusal-requires
+answer-refusal-requires c κs = search needs
+
+cast-result : tie.Need-cast-result
+cast-result c = search needs
+
+same-length : tie.Need-same-length
+same-length c = search needs
+
+returns : tie.Need-returns
+returns c =
+    rw (sym (c .before .before .before .before .before .view-of .ensures))
+    (c .answer-refusal .ensures ∙ ap answerNumber (c .before .before .before .read .ensures .answers) ∙ answer-number-answered _, c .before .before .before .read .ensures .fills)
+
+pub ondristela-read-spec : {M : Type 1} → statement M
+ondristela-read-spec =
+    tie.close
+    (tie.spec
+    view-of-requires
+    read-requires
+    answer-refusal-requires
+    cast-result
+    same-length
+    returns)

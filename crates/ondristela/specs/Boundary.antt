@@ -1,0 +1,96 @@
+-- Layouts and views as numbers, and what each answer leaves in the numbers or bytes passed for it: what the contracts of
+-- `ondristela` cite, beside the definitions of the calls below it. Assumes nothing.
+use Prim.Native.Nat.{ℕ}
+use mathlib.Core.Bool.{Bool, not, cond}
+use mathlib.Core.List.{List, [], _∷_, _++_}
+use lib.Dec.{eqb}
+use lib.ListN.{getD, set}
+use Rattle.layout.specs.declared.Layout.{Layout}
+use Rattle.layout.specs.declared.Opened.{Opened}
+use Rattle.layout.specs.declared.Opened.the-variants as opened
+use Rattle.opening.specs.Opening.{keysOffset, keysSize}
+use Rattle.opening.specs.declared.Located.{Located}
+use Rattle.opening.specs.declared.Located.the-variants as located
+use Rattle.sector_map.specs.declared.Mapped.{Mapped}
+use Rattle.sector_map.specs.declared.Mapped.the-variants as mapped
+use Rattle.view.specs.declared.Protection.{Protection}
+use Rattle.view.specs.declared.Protection.the-variants.{Unprotected, Protected}
+use Rattle.view.specs.declared.View.{View}
+use Rattle.view.specs.declared.Viewed.{Viewed}
+use Rattle.view.specs.declared.Viewed.the-variants as viewed
+
+-- the eight numbers of a layout
+unfoldable pub layoutNumbers : Layout → List ℕ
+layoutNumbers layout =
+    layout .«host_size» ∷ layout .kind ∷ layout .magic ∷ layout .version ∷ layout .«min_program_version» ∷ layout .«data_start»
+    ∷ layout .«data_size» ∷ layout .candidate ∷ []
+
+-- the layout that eight numbers tell
+unfoldable pub layoutOf : List ℕ → Layout
+layoutOf numbers =
+    record {
+      «host_size» = getD numbers 0 0;
+      kind = getD numbers 1 0;
+      magic = getD numbers 2 0;
+      version = getD numbers 3 0;
+      «min_program_version» = getD numbers 4 0;
+      «data_start» = getD numbers 5 0;
+      «data_size» = getD numbers 6 0;
+      candidate = getD numbers 7 0;
+    }
+
+-- what is protected, as three numbers: 0 for nothing, else 1, the range's first byte and the byte past its end
+unfoldable pub protectionNumbers : Protection → List ℕ
+protectionNumbers Unprotected = 0 ∷ 0 ∷ 0 ∷ []
+protectionNumbers (Protected first end) = 1 ∷ first ∷ end ∷ []
+
+-- what three numbers protect: nothing where the first is 0, else the range
+unfoldable pub protectionOf : ℕ → ℕ → ℕ → Protection
+protectionOf protected first end = cond (eqb protected 0) Unprotected (Protected first end)
+
+-- the twelve numbers of a view: its layout's, what is protected, and the lock, 0 open and 1 closed
+unfoldable pub viewNumbers : View → List ℕ
+viewNumbers view = layoutNumbers (view .layout) ++ protectionNumbers (view .protection) ++ cond (view .locked) 1 0 ∷ []
+
+-- the view that twelve numbers tell: its lock is closed where the last is not 0
+unfoldable pub viewOf : List ℕ → View
+viewOf numbers =
+    record {
+      layout = layoutOf numbers;
+      protection = protectionOf (getD numbers 8 0) (getD numbers 9 0) (getD numbers 10 0);
+      locked = not (eqb (getD numbers 11 0) 0);
+    }
+
+-- what a location leaves: the header's offset, or the number as it was
+unfoldable pub locatedLeft : Located → List ℕ → List ℕ
+locatedLeft (located.At offset) before = offset ∷ []
+locatedLeft (located.Refused number) before = before
+
+-- what opening leaves: the layout's numbers, or the numbers as they were
+unfoldable pub openedLeft : Opened → List ℕ → List ℕ
+openedLeft (opened.Accepted layout) before = layoutNumbers layout
+openedLeft (opened.Refused number) before = before
+
+-- what the call for the key bytes leaves: their offset and length within the candidates, or the numbers as they were
+unfoldable pub keysLeft : Opened → List ℕ → List ℕ
+keysLeft (opened.Accepted layout) before = keysOffset (opened.Accepted layout) ∷ keysSize (opened.Accepted layout) ∷ []
+keysLeft (opened.Refused number) before = before
+
+-- what the sector map leaves: the sector's number, or the number as it was
+unfoldable pub mappedLeft : Mapped → List ℕ → List ℕ
+mappedLeft (mapped.Number number) before = number ∷ []
+mappedLeft (mapped.Refused number) before = before
+
+-- what a tweak leaves: its block, or the bytes as they were
+unfoldable pub blockLeft : Mapped → List ℕ → List ℕ → List ℕ
+blockLeft (mapped.Number number) block before = block
+blockLeft (mapped.Refused number) block before = before
+
+-- what the making of a view leaves: the view's numbers, or the numbers as they were
+unfoldable pub viewedLeft : Viewed → List ℕ → List ℕ
+viewedLeft (viewed.Made view) before = viewNumbers view
+viewedLeft (viewed.Refused number) before = before
+
+-- what a write leaves of a view's numbers: 18 closes the lock, and nothing else changes them
+unfoldable pub viewLeft : ℕ → List ℕ → List ℕ
+viewLeft number before = cond (eqb number 18) (set before 11 1) before
