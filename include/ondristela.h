@@ -1,0 +1,279 @@
+/* Ondristela: where VeraCrypt and TrueCrypt volumes lie in their host, with reads and writes that stay there.
+ *
+ * A volume's layout comes from its deciphered header, checked against the size of the host, the disk or file
+ * that holds it. Sectors are read from and written to an image of the whole host, as they are there,
+ * enciphered; a protected view refuses every write that would touch a hidden volume. Every function is proved
+ * to end and to meet its contract for all arguments, made-up layouts and views included.
+ *
+ * Answers. Every function but ondristela_crc32 returns ONDRISTELA_ACCEPTED, which is 0, or one refusal,
+ * ONDRISTELA_REFUSED_..: of those that apply, the first in the order that the function's comment gives. A
+ * refusal leaves all memory as it was, except that ONDRISTELA_REFUSED_PROTECTED sets the view's `locked`.
+ *
+ * What the caller owes, and the proof cannot check:
+ * - No pointer is null. Each is aligned for its type, and valid for it or for the length that follows. With a
+ *   length of 0 any pointer that is not null will do.
+ * - Memory passed for writing, by a pointer that is not to const, overlaps no other argument's.
+ * - No length is above 2^63 - 1.
+ * - During a call no other thread writes memory that was passed to it, or reads what was passed for writing.
+ *   The library has no state of its own.
+ *
+ * Example. Writes one sector of an outer volume and never harms the hidden one; returns NULL, or why nothing
+ * was written. Each header is 512 deciphered bytes.
+ *
+ *     static const char *write_outer_sector(uint8_t *image, size_t image_size, const uint8_t *outer_header,
+ *                                           const uint8_t *hidden_header, uint64_t sector,
+ *                                           const uint8_t *bytes)
+ *     {
+ *         const uint8_t outer_code = ONDRISTELA_LOCATION_STANDARD;
+ *         const uint8_t hidden_code = ONDRISTELA_LOCATION_HIDDEN;
+ *         struct ondristela_layout outer, hidden;
+ *         struct ondristela_view view;
+ *
+ *         if (ondristela_open(outer_header, ONDRISTELA_HEADER_SIZE, &outer_code, 1, image_size, &outer)
+ *             != ONDRISTELA_ACCEPTED)
+ *             return "the outer volume does not open";
+ *         if (ondristela_open(hidden_header, ONDRISTELA_HEADER_SIZE, &hidden_code, 1, image_size, &hidden)
+ *             != ONDRISTELA_ACCEPTED)
+ *             return "the hidden volume does not open";
+ *         if (ondristela_view_protected(&outer, &hidden, &view) != ONDRISTELA_ACCEPTED)
+ *             return "the hidden volume does not lie in the outer one";
+ *         switch (ondristela_write(&view, image, image_size, sector, 1, bytes, ONDRISTELA_SECTOR_SIZE)) {
+ *         case ONDRISTELA_ACCEPTED:
+ *             return NULL;
+ *         case ONDRISTELA_REFUSED_PROTECTED:
+ *             return "the sector is the hidden volume's; the view takes no more writes";
+ *         default:
+ *             return "the outer volume has no such sector";
+ *         }
+ *     }
+ *
+ * Linking. `rt staticlib ondristela` proves the library and writes target/staticlib/libondristela.a, for
+ * x86-64 Linux. It needs no other library and no flag of its own; this header needs C11 or C++11:
+ *
+ *   gcc recorder.c -Iinclude -Ltarget/staticlib -londristela
+ */
+#ifndef ONDRISTELA_H
+#define ONDRISTELA_H
+
+#include <stddef.h>
+#include <stdint.h>
+
+#ifdef __cplusplus
+extern "C" {
+#endif
+
+/* The answer of a call that is accepted. */
+#define ONDRISTELA_ACCEPTED 0
+
+/* The refusals. Each has a sentence, and in quotes the words of document 01, the rules that the library is
+ * proved to keep: when it is given or, for 5 to 10, the rule that the header breaks. There S is host_size, O
+ * data_start, V data_size, E encrypted_size, H hidden_size and Z sector_size. A "trial" is a candidate, and n
+ * in 1 is how many there are; a "run" is an extent, the n sectors from user sector u on. */
+
+/* refusals: written by tools/refusals.py from refusals.txt */
+
+/* The candidates are not 1 to 64 headers of 512 bytes, with one location code for each.
+ * "trial or code lengths wrong, or n not 1 to 64" */
+#define ONDRISTELA_REFUSED_LENGTHS 1
+
+/* A location code is above 3; the codes are 0 standard, 1 hidden, 2 standard backup, 3 hidden backup.
+ * "a code above 3" */
+#define ONDRISTELA_REFUSED_CODE 2
+
+/* The host_size is not a multiple of 512 from 262,656 to 2^50.
+ * "S breaks its rule" */
+#define ONDRISTELA_REFUSED_HOST_SIZE 3
+
+/* No candidate is a header: the magic is not VERA or TRUE, or a checksum is wrong, as after deciphering
+ * with a wrong password or cipher.
+ * "no trial is a header" */
+#define ONDRISTELA_REFUSED_NO_HEADER 4
+
+/* The header's version is not supported; for VERA it must be 2 to 5, for TRUE 4 or 5.
+ * "version: VERA 2 to 5, TRUE 4 or 5" */
+#define ONDRISTELA_REFUSED_VERSION 5
+
+/* A reserved flag of the header is set, or a reserved byte of a VERA header is not zero.
+ * "flags bits 2 to 31 zero; for VERA also bytes 76 to 91 and 132 to 251 zero" */
+#define ONDRISTELA_REFUSED_RESERVED 6
+
+/* The header's flags tell of a system volume or one encrypted in place; neither is supported.
+ * "flags bits 0 and 1 zero" */
+#define ONDRISTELA_REFUSED_FLAGS 7
+
+/* The header's sector_size is not 512, the only one that is supported.
+ * "Z is 512" */
+#define ONDRISTELA_REFUSED_SECTOR_SIZE 8
+
+/* The header's hidden_size does not fit its location code; it must be 0 for a standard volume, and for a
+ * hidden one equal to data_size and not 0.
+ * "standard: H is 0. Hidden: H is not 0 and equals V" */
+#define ONDRISTELA_REFUSED_HIDDEN_SIZE 9
+
+/* The header's data area does not fit the host; it must be whole 512-byte sectors, all encrypted, that
+ * start at 131,072 (for a hidden volume there or later) and end at least 131,072 bytes before the host's
+ * end.
+ * "V is at least 512; V and O are multiples of 512; E equals V; O is 131,072 for a standard volume and at
+ * least that for a hidden one; O+V is at most S-131,072 as whole numbers, whatever the field values" */
+#define ONDRISTELA_REFUSED_DATA_AREA 10
+
+/* The layout or view is unsound: its host_size, kind, data area or protected range breaks a rule; use one
+ * that an accepted call gave.
+ * "unsound layout or view" */
+#define ONDRISTELA_REFUSED_UNSOUND 11
+
+/* The layouts do not nest; the first must be standard and the second hidden, with the same host_size and
+ * its data area inside the first's.
+ * "pair doesn't nest" */
+#define ONDRISTELA_REFUSED_NOT_NESTED 12
+
+/* The image is not host_size bytes long; pass the whole host.
+ * "image length is not S" */
+#define ONDRISTELA_REFUSED_IMAGE_SIZE 13
+
+/* The count is above 128; split the extent over several calls.
+ * "n above 128" */
+#define ONDRISTELA_REFUSED_COUNT 14
+
+/* The buffer is not 512 bytes long for each sector of the count.
+ * "buffer length is not 512n" */
+#define ONDRISTELA_REFUSED_BUFFER_SIZE 15
+
+/* The extent reaches past the volume's last sector, or the sector is not one of its data area.
+ * "u+n above V/512, the sum a whole number that never wraps; in the map, u not below V/512, or host sector
+ * not in the data area" */
+#define ONDRISTELA_REFUSED_OUTSIDE 16
+
+/* The view's write lock is closed, as refusal 18 leaves it; nothing was written, and reads still work.
+ * "lock closed" */
+#define ONDRISTELA_REFUSED_LOCKED 17
+
+/* The write would touch the protected hidden volume; nothing was written, and the view now refuses every
+ * write.
+ * "run touches the protected range" */
+#define ONDRISTELA_REFUSED_PROTECTED 18
+
+/* end of refusals */
+
+/* Bytes of a sector, of a header, and of the keys in a header. */
+#define ONDRISTELA_SECTOR_SIZE 512
+#define ONDRISTELA_HEADER_SIZE 512
+#define ONDRISTELA_KEYS_SIZE 256
+
+/* The most candidates in one opening, and the most sectors in one read or write. */
+#define ONDRISTELA_MAX_CANDIDATES 64
+#define ONDRISTELA_MAX_COUNT 128
+
+/* Location codes: where in the host a header lies. */
+#define ONDRISTELA_LOCATION_STANDARD 0        /* at 0 */
+#define ONDRISTELA_LOCATION_HIDDEN 1          /* at 65,536 */
+#define ONDRISTELA_LOCATION_STANDARD_BACKUP 2 /* at host_size - 131,072 */
+#define ONDRISTELA_LOCATION_HIDDEN_BACKUP 3   /* at host_size - 65,536 */
+
+/* Kinds of a volume. */
+#define ONDRISTELA_KIND_STANDARD 0
+#define ONDRISTELA_KIND_HIDDEN 1
+
+/* Magics of a header: VeraCrypt's and TrueCrypt's. */
+#define ONDRISTELA_MAGIC_VERA 0
+#define ONDRISTELA_MAGIC_TRUE 1
+
+/* Where a volume lies in its host, and what its header tells. It is sound where host_size keeps the rule of
+ * refusal 3, kind is one of the two, and data_start and data_size keep the rules of refusal 10; the other
+ * numbers do not matter. A caller may make one up: a call that takes an unsound one refuses 11. */
+struct ondristela_layout {
+    uint64_t host_size;           /* bytes of the host */
+    uint64_t kind;                /* ONDRISTELA_KIND_.. */
+    uint64_t magic;               /* ONDRISTELA_MAGIC_.. */
+    uint64_t version;             /* of the header */
+    uint64_t min_program_version; /* the least version of the program that may open the volume */
+    uint64_t data_start;          /* the data area's first byte in the host */
+    uint64_t data_size;           /* bytes of the data area */
+    uint64_t candidate;           /* the index of the candidate that was accepted */
+};
+
+/* A volume to read and write. It is sound where its layout is and its protected range, if it has one, is not
+ * empty and lies on 512-byte boundaries inside the data area of a standard volume. */
+struct ondristela_view {
+    struct ondristela_layout layout;
+    uint64_t protected_range; /* 0: there is none, and the next two do not matter; else there is one */
+    uint64_t protected_first; /* its first byte in the host */
+    uint64_t protected_end;   /* the byte past its end */
+    uint64_t locked;          /* the write lock: 0 open, else closed */
+};
+
+/* A part of the candidates. */
+struct ondristela_range {
+    uint64_t offset;
+    uint64_t size;
+};
+
+#ifdef __cplusplus
+static_assert(sizeof(struct ondristela_layout) == 64, "a layout is eight numbers");
+static_assert(sizeof(struct ondristela_view) == 96, "a view is twelve numbers");
+static_assert(sizeof(struct ondristela_range) == 16, "a range is two numbers");
+#else
+_Static_assert(sizeof(struct ondristela_layout) == 64, "a layout is eight numbers");
+_Static_assert(sizeof(struct ondristela_view) == 96, "a view is twelve numbers");
+_Static_assert(sizeof(struct ondristela_range) == 16, "a range is two numbers");
+#endif
+
+/* Stores the offset of a location code's header in a host of this size.
+ * Refusals: 2, 3. They leave *offset as it was. */
+uint64_t ondristela_location(uint8_t code, uint64_t host_size, uint64_t *offset);
+
+/* Opens a volume: stores the layout of the first candidate that is accepted. `candidates` holds 1 to 64
+ * deciphered headers of 512 bytes, one after the other, and `codes` the location code of each.
+ * Refusals: 1, 2, 3, before any candidate is looked at; 4 where none is a header; else, where none is
+ * accepted, that of 5 to 10 whose rule the first header breaks first. They leave *layout as it was. */
+uint64_t ondristela_open(const uint8_t *candidates, size_t candidates_size, const uint8_t *codes,
+                         size_t codes_size, uint64_t host_size, struct ondristela_layout *layout);
+
+/* Stores where in `candidates` the 256 key bytes lie of the candidate that ondristela_open accepts.
+ * Refusals: as for ondristela_open. They leave *range as it was. */
+uint64_t ondristela_keys(const uint8_t *candidates, size_t candidates_size, const uint8_t *codes,
+                         size_t codes_size, uint64_t host_size, struct ondristela_range *range);
+
+/* Stores the host sector that holds a user sector: one of the volume, counted from 0. Host sectors are
+ * counted from the host's start, for hidden volumes too. The number is also the user sector's tweak number.
+ * Refusals: 11, 16. They leave *host as it was. */
+uint64_t ondristela_host_sector(const struct ondristela_layout *layout, uint64_t user, uint64_t *host);
+
+/* Stores the user sector that a host sector holds: the inverse of ondristela_host_sector.
+ * Refusals: 11, 16. They leave *user as it was. */
+uint64_t ondristela_user_sector(const struct ondristela_layout *layout, uint64_t host, uint64_t *user);
+
+/* Stores a user sector's tweak block: its tweak number, little-endian in the first 8 bytes, then zeros.
+ * Refusals: 11, 16. They leave the block as it was. */
+uint64_t ondristela_tweak(const struct ondristela_layout *layout, uint64_t user, uint8_t block[16]);
+
+/* Stores a view of a volume alone: no protected range, the write lock open.
+ * Refusals: 11. It leaves *view as it was. */
+uint64_t ondristela_view_plain(const struct ondristela_layout *layout, struct ondristela_view *view);
+
+/* Stores a view of an outer volume that protects the data area of a hidden one, the write lock open.
+ * Refusals: 11, 12. They leave *view as it was. */
+uint64_t ondristela_view_protected(const struct ondristela_layout *outer,
+                                   const struct ondristela_layout *hidden, struct ondristela_view *view);
+
+/* Fills the buffer with `count` sectors of the image, from user sector `first` on. The image is the whole
+ * host, the buffer 512 bytes for each sector. Reads may touch the protected range and ignore the write lock.
+ * Refusals: 11, 13, 14, 15, 16. They leave the buffer as it was. */
+uint64_t ondristela_read(const struct ondristela_view *view, const uint8_t *image, size_t image_size,
+                         uint64_t first, uint64_t count, uint8_t *buffer, size_t buffer_size);
+
+/* Copies the buffer into `count` sectors of the image, from user sector `first` on, and changes nothing else.
+ * Image and buffer are as for ondristela_read.
+ * Refusals: 11, 13, 14, 15, 16, 17, 18. They leave the image as it was, and the view too, except that 18 sets
+ * its `locked` to 1: every later write is refused. A count of 0 is never refused 18. */
+uint64_t ondristela_write(struct ondristela_view *view, uint8_t *image, size_t image_size, uint64_t first,
+                          uint64_t count, const uint8_t *buffer, size_t buffer_size);
+
+/* CRC-32 of ITU-T V.42, the checksum in headers: 0xCBF43926 for the nine bytes "123456789". */
+uint32_t ondristela_crc32(const uint8_t *bytes, size_t size);
+
+#ifdef __cplusplus
+}
+#endif
+
+#endif
