@@ -1,0 +1,50 @@
+#!/usr/bin/env bash
+# Compiles tests/boundary.c as C11 and as C++ with all warnings, links it with the static library and runs it.
+# The library is libondristela.a in the folder ONDRISTELA_LIB_DIR, by default target/staticlib, where
+# `rt staticlib ondristela` writes it. Fails on a warning, on a failed check, and where the example in
+# include/ondristela.h is not the one that is compiled.
+set -euo pipefail
+
+root=$(cd "$(dirname "$0")/.." && pwd)
+folder=${ONDRISTELA_LIB_DIR:-$root/target/staticlib}
+if ! [ -f "$folder/libondristela.a" ]; then
+    echo "$folder/libondristela.a is not there: run rt staticlib ondristela" >&2
+    exit 2
+fi
+work=$(mktemp -d)
+trap 'rm -rf "$work"' EXIT
+
+warnings=(-Wall -Wextra -Wpedantic -Wconversion -Wshadow -Werror)
+c=(-std=c11 "${warnings[@]}" -Wstrict-prototypes -Wmissing-prototypes)
+cpp=(-x c++ "${warnings[@]}" -Wold-style-cast)
+sanitizers=(-g "-fsanitize=address,undefined" -fno-sanitize-recover=all)
+
+# run NAME COMPILER FLAG..
+run() {
+    "${@:2}" -I"$root/include" "$root/tests/boundary.c" -x none -L"$folder" -londristela -o "$work/boundary"
+    printf '%s: ' "$1"
+    "$work/boundary"
+}
+
+links_sanitizers() {
+    echo 'int main(void) { return 0; }' | gcc -x c - "${sanitizers[@]}" -o "$work/empty" 2>/dev/null
+}
+
+example=$(sed -n '/^ \*     static .*write_outer_sector/,/^ \*     }$/s/^ \* \{0,5\}//p' \
+    "$root/include/ondristela.h")
+if [ -z "$example" ] || [[ $(<"$root/tests/boundary.c") != *"$example"* ]]; then
+    echo 'the example in include/ondristela.h is not the function in tests/boundary.c' >&2
+    exit 1
+fi
+
+run 'gcc, C11' gcc "${c[@]}" -O2
+run 'g++, C++11' g++ "${cpp[@]}" -std=c++11
+run 'g++, C++17' g++ "${cpp[@]}" -std=c++17 -O2
+if command -v clang >/dev/null && command -v clang++ >/dev/null; then
+    run 'clang, C11' clang "${c[@]}"
+    run 'clang++, C++11' clang++ "${cpp[@]}" -std=c++11 -O2
+    run 'clang++, C++17' clang++ "${cpp[@]}" -std=c++17
+fi
+if links_sanitizers; then
+    run 'gcc, C11, sanitizers' gcc "${c[@]}" "${sanitizers[@]}"
+fi
