@@ -1,0 +1,47 @@
+//! Where VeraCrypt and TrueCrypt volumes lie on their disk, and reads and writes that stay there.
+//!
+//! A volume's place comes from its deciphered header, checked against the size of the host: the disk or
+//! file that holds it. The work is done by a library written in Rattle, in which every function is proved
+//! to meet its contract for any arguments; this crate gives it Rust's types. Data is read and written as
+//! it stands on the host, enciphered.
+//!
+//! ```
+//! # fn record(image: &mut [u8], outer_header: &[u8], hidden_header: &[u8]) -> Result<(), ondristela::Refusal> {
+//! use ondristela::{open, Location, View};
+//!
+//! let host_size = image.len() as u64;
+//! let outer = open(outer_header, &[Location::Standard.code()], host_size)?;
+//! let hidden = open(hidden_header, &[Location::Hidden.code()], host_size)?;
+//! let mut view = View::protected(&outer, &hidden)?;
+//! view.write(image, 0, 1, &[0x5A; 512])?;
+//! # Ok(())
+//! # }
+//! ```
+
+mod layout;
+mod opening;
+pub mod raw;
+mod refusal;
+mod view;
+
+pub use layout::{Kind, Layout, Magic};
+pub use opening::{key_bytes, open, Location};
+pub use refusal::Refusal;
+pub use view::View;
+
+/// A sector's bytes.
+pub const SECTOR_SIZE: usize = 512;
+
+/// A header's bytes.
+pub const HEADER_SIZE: usize = 512;
+
+/// At most so many candidates in one opening.
+pub const MAX_CANDIDATES: usize = 64;
+
+/// At most so many sectors in one read or write.
+pub const MAX_COUNT: u64 = 128;
+
+/// CRC-32 of ITU-T V.42.
+pub fn crc32(bytes: &[u8]) -> u32 {
+    raw::crc32(bytes)
+}

@@ -1,0 +1,129 @@
+//! The library's functions as they are: numbers and slices, and a refusal number as the answer.
+//!
+//! Each returns 0 where it accepts and else document 01's refusal number. A refusal changes nothing that
+//! was passed for writing, but for 18, which sets the view's last number. The functions are safe for any
+//! arguments: every one is proved with no condition on them.
+
+/// A layout's numbers: host size, kind, magic, version, min program version, data start, data size,
+/// candidate.
+pub type LayoutNumbers = [u64; 8];
+
+/// A view's numbers: its layout's, then whether a range is protected, the range's first byte and the byte
+/// past its end, and whether writes are locked.
+pub type ViewNumbers = [u64; 12];
+
+mod library {
+    use super::{LayoutNumbers, ViewNumbers};
+
+    // These declarations must be those of include/ondristela.h. A slice is a pointer and a length.
+    #[rustfmt::skip]
+    extern "C" {
+        pub fn ondristela_location(code: u8, host_size: u64, offset: *mut [u64; 1]) -> u64;
+        pub fn ondristela_open(candidates: *const u8, candidates_size: usize, codes: *const u8, codes_size: usize, host_size: u64, layout: *mut LayoutNumbers) -> u64;
+        pub fn ondristela_keys(candidates: *const u8, candidates_size: usize, codes: *const u8, codes_size: usize, host_size: u64, range: *mut [u64; 2]) -> u64;
+        pub fn ondristela_host_sector(layout: *const LayoutNumbers, user: u64, host: *mut [u64; 1]) -> u64;
+        pub fn ondristela_user_sector(layout: *const LayoutNumbers, host: u64, user: *mut [u64; 1]) -> u64;
+        pub fn ondristela_tweak(layout: *const LayoutNumbers, user: u64, block: *mut [u8; 16]) -> u64;
+        pub fn ondristela_view_plain(layout: *const LayoutNumbers, view: *mut ViewNumbers) -> u64;
+        pub fn ondristela_view_protected(outer: *const LayoutNumbers, hidden: *const LayoutNumbers, view: *mut ViewNumbers) -> u64;
+        pub fn ondristela_read(view: *const ViewNumbers, image: *const u8, image_size: usize, first: u64, count: u64, buffer: *mut u8, buffer_size: usize) -> u64;
+        pub fn ondristela_write(view: *mut ViewNumbers, image: *mut u8, image_size: usize, first: u64, count: u64, buffer: *const u8, buffer_size: usize) -> u64;
+        pub fn ondristela_crc32(bytes: *const u8, size: usize) -> u32;
+    }
+}
+
+// SAFETY, for every call below: the pointers and lengths come from borrows that live through the call,
+// and the library is proved to stay within them.
+
+/// Where the header of a location code lies in a host of this size.
+pub fn location(code: u8, host_size: u64, offset: &mut [u64; 1]) -> u64 {
+    unsafe { library::ondristela_location(code, host_size, offset) }
+}
+
+/// The layout of the first candidate that is accepted.
+pub fn open(candidates: &[u8], codes: &[u8], host_size: u64, layout: &mut LayoutNumbers) -> u64 {
+    unsafe {
+        library::ondristela_open(
+            candidates.as_ptr(),
+            candidates.len(),
+            codes.as_ptr(),
+            codes.len(),
+            host_size,
+            layout,
+        )
+    }
+}
+
+/// The offset and the length of the accepted candidate's key bytes, within the candidates.
+pub fn keys(candidates: &[u8], codes: &[u8], host_size: u64, range: &mut [u64; 2]) -> u64 {
+    unsafe {
+        library::ondristela_keys(
+            candidates.as_ptr(),
+            candidates.len(),
+            codes.as_ptr(),
+            codes.len(),
+            host_size,
+            range,
+        )
+    }
+}
+
+/// The host sector that holds a user sector.
+pub fn host_sector(layout: &LayoutNumbers, user: u64, host: &mut [u64; 1]) -> u64 {
+    unsafe { library::ondristela_host_sector(layout, user, host) }
+}
+
+/// The user sector that a host sector holds.
+pub fn user_sector(layout: &LayoutNumbers, host: u64, user: &mut [u64; 1]) -> u64 {
+    unsafe { library::ondristela_user_sector(layout, host, user) }
+}
+
+/// The tweak block of a user sector.
+pub fn tweak(layout: &LayoutNumbers, user: u64, block: &mut [u8; 16]) -> u64 {
+    unsafe { library::ondristela_tweak(layout, user, block) }
+}
+
+/// A view of a volume alone.
+pub fn view_plain(layout: &LayoutNumbers, view: &mut ViewNumbers) -> u64 {
+    unsafe { library::ondristela_view_plain(layout, view) }
+}
+
+/// A view of an outer volume whose writes may not touch a hidden volume's data area.
+pub fn view_protected(outer: &LayoutNumbers, hidden: &LayoutNumbers, view: &mut ViewNumbers) -> u64 {
+    unsafe { library::ondristela_view_protected(outer, hidden, view) }
+}
+
+/// Fills the buffer with `count` sectors of the image, from user sector `first` on.
+pub fn read(view: &ViewNumbers, image: &[u8], first: u64, count: u64, buffer: &mut [u8]) -> u64 {
+    unsafe {
+        library::ondristela_read(
+            view,
+            image.as_ptr(),
+            image.len(),
+            first,
+            count,
+            buffer.as_mut_ptr(),
+            buffer.len(),
+        )
+    }
+}
+
+/// Copies the buffer into `count` sectors of the image, from user sector `first` on.
+pub fn write(view: &mut ViewNumbers, image: &mut [u8], first: u64, count: u64, buffer: &[u8]) -> u64 {
+    unsafe {
+        library::ondristela_write(
+            view,
+            image.as_mut_ptr(),
+            image.len(),
+            first,
+            count,
+            buffer.as_ptr(),
+            buffer.len(),
+        )
+    }
+}
+
+/// CRC-32 of ITU-T V.42.
+pub fn crc32(bytes: &[u8]) -> u32 {
+    unsafe { library::ondristela_crc32(bytes.as_ptr(), bytes.len()) }
+}

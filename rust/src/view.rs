@@ -1,0 +1,64 @@
+//! Views of a volume, and reads and writes on them.
+
+use std::ops::Range;
+
+use crate::raw::{self, ViewNumbers};
+use crate::{Layout, Refusal};
+
+/// A volume to read and write. Anybody may make one up: each call checks that it is sound.
+#[derive(Clone, Debug, PartialEq, Eq, Hash)]
+pub struct View {
+    /// The volume's layout.
+    pub layout: Layout,
+    /// The host's bytes that writes may not touch, if any.
+    pub protected: Option<Range<u64>>,
+    /// Whether every write is refused. A write that would touch the protected range sets it.
+    pub locked: bool,
+}
+
+impl View {
+    /// A view of a volume alone.
+    pub fn plain(layout: &Layout) -> Result<View, Refusal> {
+        let mut numbers = [0; 12];
+        Refusal::check(raw::view_plain(&layout.numbers(), &mut numbers))?;
+        Ok(View::made(layout, &numbers))
+    }
+
+    /// A view of an outer volume whose writes may not touch a hidden volume's data area.
+    pub fn protected(outer: &Layout, hidden: &Layout) -> Result<View, Refusal> {
+        let mut numbers = [0; 12];
+        Refusal::check(raw::view_protected(&outer.numbers(), &hidden.numbers(), &mut numbers))?;
+        Ok(View::made(outer, &numbers))
+    }
+
+    fn made(layout: &Layout, numbers: &ViewNumbers) -> View {
+        let [protected, first, end, locked] = [numbers[8], numbers[9], numbers[10], numbers[11]];
+        View { layout: *layout, protected: (protected != 0).then_some(first..end), locked: locked != 0 }
+    }
+
+    /// The view as the library's twelve numbers.
+    pub fn numbers(&self) -> ViewNumbers {
+        let mut numbers = [0; 12];
+        numbers[..8].copy_from_slice(&self.layout.numbers());
+        if let Some(range) = &self.protected {
+            numbers[8..11].copy_from_slice(&[1, range.start, range.end]);
+        }
+        numbers[11] = self.locked as u64;
+        numbers
+    }
+
+    /// Fills the buffer with `count` sectors of the image, from user sector `first` on. The image is the
+    /// whole host, the buffer 512 bytes for each sector. A refusal leaves the buffer as it was.
+    pub fn read(&self, image: &[u8], first: u64, count: u64, buffer: &mut [u8]) -> Result<(), Refusal> {
+        Refusal::check(raw::read(&self.numbers(), image, first, count, buffer))
+    }
+
+    /// Copies the buffer into `count` sectors of the image, from user sector `first` on. A refusal leaves
+    /// the image as it was; `Refusal::Protected` locks the view.
+    pub fn write(&mut self, image: &mut [u8], first: u64, count: u64, buffer: &[u8]) -> Result<(), Refusal> {
+        let mut numbers = self.numbers();
+        let answer = raw::write(&mut numbers, image, first, count, buffer);
+        self.locked = numbers[11] != 0;
+        Refusal::check(answer)
+    }
+}
