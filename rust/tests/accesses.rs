@@ -1,0 +1,167 @@
+//! Reads and writes on views that a caller made up, compared with document 01's rules in `reference`.
+
+mod cases;
+mod reference;
+
+use cases::coverage::Coverage;
+use cases::extents::{buffer_size, for_sectors};
+use cases::views;
+use ondristela::raw;
+use reference::access::{self, Extent, View};
+use reference::random::Random;
+
+const SEED: u64 = 21;
+const CASES: u64 = 100_000;
+
+/// Room for a buffer of one sector more than a call may name, and one byte.
+const MAX_BUFFER: usize = 131 * 512;
+
+/// The library's bytes and the reference's. Each call gets parts of them, and after each they are equal.
+struct Memory {
+    image: Vec<u8>,
+    buffer: Vec<u8>,
+}
+
+impl Memory {
+    fn new() -> Memory {
+        let mut memory = Memory { image: vec![0; views::MAX_HOST_SIZE + 512], buffer: vec![0; MAX_BUFFER] };
+        let mut random = Random::of_case(SEED, CASES);
+        random.fill(&mut memory.image);
+        random.fill(&mut memory.buffer);
+        memory
+    }
+}
+
+/// One read or write: what is passed, by its numbers and sizes.
+#[derive(Debug)]
+struct Access {
+    view: View,
+    image_size: usize,
+    extent: Extent,
+    buffer_size: usize,
+}
+
+fn access(random: &mut Random) -> Access {
+    let view = views::view(random);
+    let extent = for_sectors(view.layout.sector_count(), random);
+    let image_size = image_size(view.layout.host_size, random);
+    let buffer_size = buffer_size(extent.count, MAX_BUFFER, random);
+    Access { view, image_size, extent, buffer_size }
+}
+
+/// Mostly the host's own size, as far as the memory goes.
+fn image_size(host_size: u64, random: &mut Random) -> usize {
+    let right = host_size.min(views::MAX_HOST_SIZE as u64) as usize;
+    if random.chance(95) {
+        return right;
+    }
+    random.pick(&[0, 512, right.saturating_sub(1), right.saturating_sub(512), right + 1, right + 512])
+}
+
+/// Reads from the library into `given` and from the reference into `expected`.
+fn check_read(access: &Access, given: &mut Memory, expected: &mut Memory, case: u64) -> u64 {
+    let Access { view, image_size, extent, buffer_size } = access;
+    let expected_answer =
+        access::read(view, &expected.image[..*image_size], *extent, &mut expected.buffer[..*buffer_size]);
+    let numbers = view.numbers();
+    let image = &given.image[..*image_size];
+    let buffer = &mut given.buffer[..*buffer_size];
+    let answer = raw::read(&numbers, image, extent.first, extent.count, buffer);
+    assert_eq!(answer, expected_answer, "read, seed {SEED} case {case}: {access:?}");
+    assert_eq!(numbers, view.numbers(), "read changed its view, seed {SEED} case {case}: {access:?}");
+    answer
+}
+
+/// Writes with the library to `given` and with the reference to `expected`.
+fn check_write(access: &Access, given: &mut Memory, expected: &mut Memory, case: u64) -> u64 {
+    let Access { view, image_size, extent, buffer_size } = access;
+    let mut expected_view = *view;
+    let expected_answer = access::write(
+        &mut expected_view,
+        &mut expected.image[..*image_size],
+        *extent,
+        &expected.buffer[..*buffer_size],
+    );
+    let mut numbers = view.numbers();
+    let image = &mut given.image[..*image_size];
+    let buffer = &given.buffer[..*buffer_size];
+    let answer = raw::write(&mut numbers, image, extent.first, extent.count, buffer);
+    assert_eq!(answer, expected_answer, "write, seed {SEED} case {case}: {access:?}");
+    assert_eq!(numbers, expected_view.numbers(), "write's view, seed {SEED} case {case}: {access:?}");
+    answer
+}
+
+type Check = fn(&Access, &mut Memory, &mut Memory, u64) -> u64;
+
+/// Checks the cases on one pair of memories that live through all of them.
+fn check_cases(name: &'static str, check: Check) -> Coverage {
+    let (mut given, mut expected) = (Memory::new(), Memory::new());
+    let mut coverage = Coverage::new(name);
+    for case in 0..CASES {
+        let mut random = Random::of_case(SEED, case);
+        let access = access(&mut random);
+        refresh_buffers(&mut given, &mut expected, &mut random);
+        coverage.count(check(&access, &mut given, &mut expected, case));
+        let same = given.image == expected.image && given.buffer == expected.buffer;
+        assert!(same, "{name} left other bytes, seed {SEED} case {case}: {access:?}");
+    }
+    coverage
+}
+
+/// New bytes at the start of each sector of the buffers, so that every call carries its own.
+fn refresh_buffers(given: &mut Memory, expected: &mut Memory, random: &mut Random) {
+    let stamp = random.number();
+    for start in (0..MAX_BUFFER).step_by(512) {
+        let bytes = (stamp ^ start as u64).to_le_bytes();
+        given.buffer[start..start + 8].copy_from_slice(&bytes);
+        expected.buffer[start..start + 8].copy_from_slice(&bytes);
+    }
+}
+
+#[test]
+fn reads() {
+    check_cases("read", check_read).assert_exactly(&[0, 11, 13, 14, 15, 16], 1_000);
+}
+
+#[test]
+fn writes() {
+    check_cases("write", check_write).assert_exactly(&[0, 11, 13, 14, 15, 16, 17, 18], 1_000);
+}
+
+/// The writes of these cases hold those that known mistakes would judge otherwise: an extent whose first and
+/// last sectors are not protected, but one between them; one that reaches past the volume's end and touches
+/// the range before it; one whose sum wraps to a number that fits.
+#[test]
+fn writes_show_what_decides() {
+    let (mut straddling, mut past_end, mut wrapping) = (0, 0, 0);
+    for case in 0..20_000 {
+        let access = access(&mut Random::of_case(SEED, case));
+        let Extent { first, count } = access.extent;
+        match judged(&access, access.extent) {
+            18 => straddling += u64::from(ends_are_free(&access)),
+            16 if first.checked_add(count).is_none() => wrapping += u64::from(first.wrapping_add(count) <= 1),
+            16 => past_end += u64::from(rest_is_protected(&access)),
+            _ => {}
+        }
+    }
+    println!("of 20000 writes: {straddling} straddle, {past_end} touch and go past the end, {wrapping} wrap");
+    assert!(straddling >= 50 && past_end >= 20 && wrapping >= 20);
+}
+
+/// The answer to a write of this access's view over this extent, with a buffer that fits.
+fn judged(access: &Access, extent: Extent) -> u64 {
+    let buffer_size = extent.count.wrapping_mul(512) as usize;
+    access::write_refusal(&access.view, access.image_size, extent, buffer_size)
+}
+
+fn ends_are_free(access: &Access) -> bool {
+    let Extent { first, count } = access.extent;
+    [first, first + count - 1].iter().all(|sector| judged(access, Extent { first: *sector, count: 1 }) == 0)
+}
+
+/// The part of the extent that lies in the volume would be refused 18.
+fn rest_is_protected(access: &Access) -> bool {
+    let first = access.extent.first;
+    let rest = access.view.layout.sector_count().saturating_sub(first);
+    judged(access, Extent { first, count: rest }) == 18
+}

@@ -1,0 +1,149 @@
+//! The crate's own types over the library's numbers.
+
+use ondristela::{key_bytes, open, raw, Kind, Layout, Location, Magic, Refusal, View};
+
+const HOST_SIZE: u64 = 1_048_576;
+const OUTER_HEADER: &[u8; 512] = include_bytes!("../../samples/tcplay-1048576-code0.header");
+const HIDDEN_HEADER: &[u8; 512] = include_bytes!("../../samples/tcplay-1048576-code1.header");
+
+fn outer() -> Layout {
+    open(OUTER_HEADER, &[Location::Standard.code()], HOST_SIZE).unwrap()
+}
+
+fn hidden() -> Layout {
+    open(HIDDEN_HEADER, &[Location::Hidden.code()], HOST_SIZE).unwrap()
+}
+
+/// A candidate that is no header, then the hidden volume's header.
+fn two_candidates() -> Vec<u8> {
+    [&[0x5A; 512], HIDDEN_HEADER.as_slice()].concat()
+}
+
+#[test]
+fn layout_fields() {
+    let layout = Layout {
+        host_size: HOST_SIZE,
+        kind: Kind::Hidden,
+        magic: Magic::True,
+        version: 5,
+        min_program_version: 7,
+        data_start: 655_360,
+        data_size: 262_144,
+        candidate: 1,
+    };
+    assert_eq!(open(&two_candidates(), &[0, 1], HOST_SIZE), Ok(layout));
+    assert_eq!(
+        outer(),
+        Layout { kind: Kind::Standard, data_start: 131_072, data_size: 786_432, candidate: 0, ..layout }
+    );
+}
+
+#[test]
+fn layout_numbers() {
+    for (header, code, layout) in [(OUTER_HEADER, 0, outer()), (HIDDEN_HEADER, 1, hidden())] {
+        let mut numbers = [0; 8];
+        assert_eq!(raw::open(header, &[code], HOST_SIZE, &mut numbers), 0);
+        assert_eq!(layout.numbers(), numbers);
+    }
+}
+
+#[test]
+fn key_bytes_are_a_part_of_the_candidates() {
+    let candidates = two_candidates();
+    let keys = key_bytes(&candidates, &[0, 1], HOST_SIZE).unwrap();
+    assert_eq!(keys.as_ptr_range(), candidates[512 + 256..1_024].as_ptr_range());
+    assert_eq!(keys, &HIDDEN_HEADER[256..]);
+}
+
+#[test]
+fn refused_openings() {
+    let refusals = [
+        (OUTER_HEADER.as_slice(), [1].as_slice(), HOST_SIZE, Refusal::HiddenSize),
+        (OUTER_HEADER, &[0], 262_656, Refusal::DataArea),
+        (OUTER_HEADER, &[0], 1, Refusal::HostSize),
+        (OUTER_HEADER, &[4], HOST_SIZE, Refusal::Code),
+        (OUTER_HEADER, &[0, 0], HOST_SIZE, Refusal::Lengths),
+        (&[0; 512], &[0], HOST_SIZE, Refusal::NoHeader),
+    ];
+    for (candidates, codes, host_size, refusal) in refusals {
+        assert_eq!(open(candidates, codes, host_size), Err(refusal));
+        assert_eq!(key_bytes(candidates, codes, host_size), Err(refusal));
+    }
+}
+
+#[test]
+fn location_offsets() {
+    let offsets = Location::ALL.map(|location| location.offset(HOST_SIZE));
+    assert_eq!(offsets, [Ok(0), Ok(65_536), Ok(HOST_SIZE - 131_072), Ok(HOST_SIZE - 65_536)]);
+    assert_eq!(Location::ALL.map(Location::code), [0, 1, 2, 3]);
+    assert_eq!(
+        Location::ALL.map(Location::kind),
+        [Kind::Standard, Kind::Hidden, Kind::Standard, Kind::Hidden]
+    );
+    assert_eq!(Location::Hidden.offset(262_144), Err(Refusal::HostSize));
+}
+
+#[test]
+fn sectors_and_tweaks() {
+    let layout = hidden();
+    assert_eq!(layout.sector_count(), 512);
+    assert_eq!(layout.host_sector(511), Ok(1_791));
+    assert_eq!(layout.user_sector(1_791), Ok(511));
+    assert_eq!(layout.tweak(511), Ok(1_791u128.to_le_bytes()));
+    assert_eq!(layout.host_sector(512), Err(Refusal::Outside));
+    assert_eq!(layout.user_sector(1_279), Err(Refusal::Outside));
+    assert_eq!(Layout { data_size: 511, ..layout }.tweak(0), Err(Refusal::Unsound));
+}
+
+#[test]
+fn view_numbers() {
+    let (outer, hidden) = (outer(), hidden());
+    let (mut plain, mut protected) = ([0; 12], [0; 12]);
+    assert_eq!(raw::view_plain(&hidden.numbers(), &mut plain), 0);
+    assert_eq!(raw::view_protected(&outer.numbers(), &hidden.numbers(), &mut protected), 0);
+    assert_eq!(View::plain(&hidden).unwrap().numbers(), plain);
+    let view = View::protected(&outer, &hidden).unwrap();
+    assert_eq!(view.numbers(), protected);
+    assert_eq!((view.protected.clone(), view.locked), (Some(655_360..917_504), false));
+    assert_eq!(View { locked: true, ..view }.numbers()[11], 1);
+    assert_eq!(View::protected(&hidden, &outer), Err(Refusal::NotNested));
+}
+
+#[test]
+fn writes_are_read_back() {
+    let mut image = vec![0; HOST_SIZE as usize];
+    let mut view = View::plain(&hidden()).unwrap();
+    let written: Vec<u8> = (0..1_024).map(|index| (index % 251) as u8).collect();
+    assert_eq!(view.write(&mut image, 510, 2, &written), Ok(()));
+    let mut read = vec![0; 1_024];
+    assert_eq!(view.read(&image, 510, 2, &mut read), Ok(()));
+    assert_eq!(read, written);
+    assert_eq!(image[655_360 + 510 * 512..][..1_024], written);
+    assert_eq!(view.read(&image[1..], 0, 0, &mut []), Err(Refusal::ImageSize));
+    assert_eq!(view.read(&image, 0, 1, &mut []), Err(Refusal::BufferSize));
+    assert_eq!(view.read(&image, 0, 129, &mut []), Err(Refusal::Count));
+}
+
+#[test]
+fn a_protected_write_locks_the_view() {
+    let mut image = vec![0; HOST_SIZE as usize];
+    let mut view = View::protected(&outer(), &hidden()).unwrap();
+    let buffer = [0x5A; 1_024];
+    assert_eq!(view.write(&mut image, 1_023, 2, &buffer), Err(Refusal::Protected));
+    assert!(view.locked && image.iter().all(|byte| *byte == 0));
+    assert_eq!(view.write(&mut image, 0, 2, &buffer), Err(Refusal::Locked));
+    assert_eq!(view.read(&image, 1_023, 2, &mut [0; 1_024]), Ok(()));
+    let unlocked = View::protected(&outer(), &hidden()).unwrap();
+    assert_eq!(view, View { locked: true, ..unlocked });
+}
+
+#[test]
+fn refusals_and_their_numbers() {
+    for (index, refusal) in Refusal::ALL.into_iter().enumerate() {
+        let number = index as u64 + 1;
+        assert_eq!(u64::from(refusal.number()), number);
+        assert_eq!(Refusal::from_number(number), Some(refusal));
+        assert!(!refusal.rule().is_empty() && !refusal.to_string().is_empty());
+    }
+    assert_eq!([0, 19, 256 + 1, u64::MAX].map(Refusal::from_number), [None; 4]);
+}

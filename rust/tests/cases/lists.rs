@@ -1,0 +1,142 @@
+//! Two lists of calls on one image: those of an outer view that protects a hidden volume, and those of the
+//! hidden volume's own view; and orders in which they may come.
+
+use std::fmt;
+
+use super::extents;
+use super::hosts::sectors_between_headers;
+use crate::reference::access::{self, Extent, View};
+use crate::reference::layout::{Layout, HEADERS_SIZE, HIDDEN, MIN_HOST_SIZE, SECTOR, STANDARD};
+use crate::reference::model::{Call, INNER, OUTER};
+use crate::reference::random::Random;
+
+pub struct Lists {
+    pub layouts: [Layout; 2],
+    pub locks: [u64; 2],
+    pub image: Vec<u8>,
+    pub calls: [Vec<Call>; 2],
+}
+
+/// Up to so many calls in a list.
+const MAX_CALLS: u64 = 12;
+
+impl Lists {
+    pub fn new(random: &mut Random) -> Lists {
+        let layouts = nested(random);
+        let locks = [random.pick(&[0, 0, 0, 1]), random.pick(&[0, 0, 0, 0, 1, 7])];
+        let calls = [calls_on(&layouts, OUTER, random), calls_on(&layouts, INNER, random)];
+        Lists { layouts, locks, image: image(layouts[OUTER].host_size, random), calls }
+    }
+
+    /// The outer and the hidden view as the reference makes them, with the locks that they start with.
+    pub fn views(&self) -> [View; 2] {
+        let [outer, hidden] = &self.layouts;
+        let mut views =
+            [access::protected(outer, hidden), access::plain(hidden)].map(|view| view.expect("a sound view"));
+        views[OUTER].write_lock = self.locks[OUTER];
+        views[INNER].write_lock = self.locks[INNER];
+        views
+    }
+
+    /// An order that keeps each list's own: whose call comes at each step.
+    pub fn random_order(&self, random: &mut Random) -> Vec<usize> {
+        let mut left = [self.calls[OUTER].len(), self.calls[INNER].len()];
+        let mut order = Vec::new();
+        while left[OUTER] + left[INNER] > 0 {
+            let drawn = random.below((left[OUTER] + left[INNER]) as u64) as usize;
+            let side = if drawn < left[OUTER] { OUTER } else { INNER };
+            left[side] -= 1;
+            order.push(side);
+        }
+        order
+    }
+
+    /// All calls of one list, then all of the other.
+    pub fn order_from(&self, first: usize) -> Vec<usize> {
+        let second = 1 - first;
+        [vec![first; self.calls[first].len()], vec![second; self.calls[second].len()]].concat()
+    }
+}
+
+/// The layouts, the locks, the image's size and each list's calls without their bytes.
+impl fmt::Debug for Lists {
+    fn fmt(&self, out: &mut fmt::Formatter) -> fmt::Result {
+        let Lists { layouts, locks, image, calls } = self;
+        write!(out, "{layouts:?}, locks {locks:?}, image of {} bytes", image.len())?;
+        write!(out, ", outer calls: {}", summary(&calls[OUTER]))?;
+        write!(out, ", hidden calls: {}", summary(&calls[INNER]))
+    }
+}
+
+fn summary(calls: &[Call]) -> String {
+    calls.iter().map(call_summary).collect::<Vec<_>>().join("; ")
+}
+
+fn call_summary(call: &Call) -> String {
+    let kind = if call.writes { "write" } else { "read" };
+    format!("{kind} {} count {} buffer {}", call.extent.first, call.extent.count, call.buffer.len())
+}
+
+/// An outer and a hidden layout that nest, on a host with few sectors of data area.
+fn nested(random: &mut Random) -> [Layout; 2] {
+    let host_size = MIN_HOST_SIZE + SECTOR * random.between(0, 40);
+    let outer_sectors = random.between(1, sectors_between_headers(host_size));
+    let before = random.below(outer_sectors);
+    let hidden_sectors = random.between(1, outer_sectors - before);
+    let outer = Layout {
+        host_size,
+        kind: STANDARD,
+        magic: random.below(2),
+        version: 5,
+        min_program_version: 7,
+        data_start: HEADERS_SIZE,
+        data_size: SECTOR * outer_sectors,
+        candidate: random.below(64),
+    };
+    let data_start = HEADERS_SIZE + SECTOR * before;
+    [outer, Layout { kind: HIDDEN, data_start, data_size: SECTOR * hidden_sectors, ..outer }]
+}
+
+/// An image of random bytes, now and then of another size than the host's.
+fn image(host_size: u64, random: &mut Random) -> Vec<u8> {
+    let size = host_size as usize;
+    let odd = random.pick(&[0, size - 1, size - 512, size + 512]);
+    let mut image = vec![0; if random.chance(4) { odd } else { size }];
+    random.fill(&mut image);
+    image
+}
+
+fn calls_on(layouts: &[Layout; 2], side: usize, random: &mut Random) -> Vec<Call> {
+    let count = if random.chance(5) { 0 } else { random.between(1, MAX_CALLS) };
+    let avoids_hidden = random.chance(70);
+    (0..count).map(|_| call(layouts, side, avoids_hidden, random)).collect()
+}
+
+fn call(layouts: &[Layout; 2], side: usize, avoids_hidden: bool, random: &mut Random) -> Call {
+    let sectors = layouts[side].sector_count();
+    let writes = random.chance(60);
+    let extent = match random.below(10) {
+        0 => extents::for_sectors(sectors, random),
+        _ if side == OUTER && writes && avoids_hidden => outside_hidden(layouts, random),
+        _ => short(extents::inside(sectors, random), random),
+    };
+    let mut buffer = vec![0; extents::buffer_size(extent.count, 2 * 65_536, random)];
+    random.fill(&mut buffer);
+    Call { writes, extent, buffer }
+}
+
+fn short(extent: Extent, random: &mut Random) -> Extent {
+    Extent { first: extent.first, count: extent.count.min(random.between(0, 6)) }
+}
+
+/// An extent of the outer volume before the hidden data area or behind it.
+fn outside_hidden(layouts: &[Layout; 2], random: &mut Random) -> Extent {
+    let [outer, hidden] = layouts;
+    let before = (hidden.data_start - outer.data_start) / SECTOR;
+    let behind = before + hidden.sector_count();
+    if random.chance(50) {
+        return short(extents::inside(before, random), random);
+    }
+    let extent = short(extents::inside(outer.sector_count() - behind, random), random);
+    Extent { first: behind + extent.first, count: extent.count }
+}

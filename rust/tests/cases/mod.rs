@@ -1,0 +1,14 @@
+//! Inputs made up for the tests, and counts of the answers that they reach.
+
+// Each test file uses a part of it.
+#![allow(dead_code)]
+
+pub mod candidates;
+pub mod changes;
+pub mod coverage;
+pub mod extents;
+pub mod hosts;
+pub mod layouts;
+pub mod lists;
+pub mod openings;
+pub mod views;

@@ -1,0 +1,164 @@
+//! Views, and reads and writes on them (document 01, "Views and the lock").
+
+use std::ops::Range;
+
+use super::layout::{Layout, HIDDEN, SECTOR, STANDARD};
+use super::sector_map::host_sector;
+
+pub const MAX_COUNT: u64 = 128;
+
+/// A view as a caller may make it up. `protected` 0 is no range and `write_lock` 0 is open; any other
+/// number is a range, and closed.
+#[derive(Clone, Copy, Debug, PartialEq, Eq)]
+pub struct View {
+    pub layout: Layout,
+    pub protected: u64,
+    pub protected_start: u64,
+    pub protected_end: u64,
+    pub write_lock: u64,
+}
+
+/// The extent of a read or a write: a first user sector and a count.
+#[derive(Clone, Copy, Debug, PartialEq, Eq)]
+pub struct Extent {
+    pub first: u64,
+    pub count: u64,
+}
+
+impl View {
+    pub fn numbers(&self) -> [u64; 12] {
+        let mut numbers = [0; 12];
+        numbers[..8].copy_from_slice(&self.layout.numbers());
+        numbers[8] = self.protected;
+        numbers[9] = self.protected_start;
+        numbers[10] = self.protected_end;
+        numbers[11] = self.write_lock;
+        numbers
+    }
+
+    pub fn is_sound(&self) -> bool {
+        self.layout.is_sound() && (self.protected == 0 || self.range_is_sound())
+    }
+
+    /// "On 512-byte boundaries inside a standard volume's data area and isn't empty."
+    fn range_is_sound(&self) -> bool {
+        self.layout.kind == STANDARD
+            && self.protected_start % SECTOR == 0
+            && self.protected_end % SECTOR == 0
+            && self.protected_start >= self.layout.data_start
+            && u128::from(self.protected_end) <= self.layout.data_end()
+            && self.protected_start < self.protected_end
+    }
+
+    fn protects(&self, host: u64) -> bool {
+        self.protected != 0 && (self.protected_start..self.protected_end).contains(&(host * SECTOR))
+    }
+}
+
+/// The view of a volume alone.
+pub fn plain(layout: &Layout) -> Result<View, u64> {
+    if !layout.is_sound() {
+        return Err(11);
+    }
+    Ok(View { layout: *layout, protected: 0, protected_start: 0, protected_end: 0, write_lock: 0 })
+}
+
+/// The view of an outer volume that protects a hidden volume's data area.
+pub fn protected(outer: &Layout, hidden: &Layout) -> Result<View, u64> {
+    if !outer.is_sound() || !hidden.is_sound() {
+        return Err(11);
+    }
+    if !nests(outer, hidden) {
+        return Err(12);
+    }
+    let protected_end = hidden.data_start + hidden.data_size;
+    Ok(View {
+        layout: *outer,
+        protected: 1,
+        protected_start: hidden.data_start,
+        protected_end,
+        write_lock: 0,
+    })
+}
+
+fn nests(outer: &Layout, hidden: &Layout) -> bool {
+    outer.kind == STANDARD
+        && hidden.kind == HIDDEN
+        && outer.host_size == hidden.host_size
+        && outer.data_start <= hidden.data_start
+        && hidden.data_end() <= outer.data_end()
+}
+
+/// "Order of checks: 11, 13, 14, 15, 16": what reads and writes share. 0 where none refuses.
+pub fn refusal(view: &View, image_size: usize, extent: Extent, buffer_size: usize) -> u64 {
+    if !view.is_sound() {
+        return 11;
+    }
+    if image_size as u128 != u128::from(view.layout.host_size) {
+        return 13;
+    }
+    if extent.count > MAX_COUNT {
+        return 14;
+    }
+    if buffer_size as u128 != u128::from(SECTOR) * u128::from(extent.count) {
+        return 15;
+    }
+    if u128::from(extent.first) + u128::from(extent.count) > u128::from(view.layout.sector_count()) {
+        return 16;
+    }
+    0
+}
+
+/// "And for writes 17, 18."
+pub fn write_refusal(view: &View, image_size: usize, extent: Extent, buffer_size: usize) -> u64 {
+    let shared = refusal(view, image_size, extent, buffer_size);
+    if shared != 0 {
+        return shared;
+    }
+    if view.write_lock != 0 {
+        return 17;
+    }
+    if covered(&view.layout, extent).iter().any(|host| view.protects(*host)) {
+        return 18;
+    }
+    0
+}
+
+/// The host sectors that the map gives for the extent's user sectors.
+pub fn covered(layout: &Layout, extent: Extent) -> Vec<u64> {
+    (0..extent.count)
+        .map(|index| host_sector(layout, extent.first + index).expect("a sector of the data area"))
+        .collect()
+}
+
+fn bytes_of(host: u64) -> Range<usize> {
+    let start = (host * SECTOR) as usize;
+    start..start + SECTOR as usize
+}
+
+/// An accepted read copies the covered sectors, in order, into the buffer.
+pub fn read(view: &View, image: &[u8], extent: Extent, buffer: &mut [u8]) -> u64 {
+    let answer = refusal(view, image.len(), extent, buffer.len());
+    if answer == 0 {
+        let sectors = buffer.chunks_mut(SECTOR as usize);
+        for (bytes, host) in sectors.zip(covered(&view.layout, extent)) {
+            bytes.copy_from_slice(&image[bytes_of(host)]);
+        }
+    }
+    answer
+}
+
+/// An accepted write copies each sector's bytes, in order, into the covered sectors; 18 closes the lock.
+pub fn write(view: &mut View, image: &mut [u8], extent: Extent, buffer: &[u8]) -> u64 {
+    let answer = write_refusal(view, image.len(), extent, buffer.len());
+    if answer == 0 {
+        let sectors = buffer.chunks(SECTOR as usize);
+        for (bytes, host) in sectors.zip(covered(&view.layout, extent)) {
+            image[bytes_of(host)].copy_from_slice(bytes);
+        }
+    }
+    if answer == 18 {
+        view.write_lock = 1;
+    }
+    answer
+}

@@ -1,0 +1,120 @@
+//! One candidate: its fields, whether it is a header, and the first line that it fails (document 01,
+//! "The 512 header bytes").
+
+use std::ops::Range;
+
+use super::crc::crc32;
+use super::layout::{data_area_allowed, Layout, STANDARD};
+
+pub const HEADER_SIZE: usize = 512;
+
+pub const SALT: Range<usize> = 0..64;
+pub const MAGIC: Range<usize> = 64..68;
+pub const VERSION: Range<usize> = 68..70;
+pub const MIN_PROGRAM_VERSION: Range<usize> = 70..72;
+pub const KEYS_CHECKSUM: Range<usize> = 72..76;
+pub const RESERVED: Range<usize> = 76..92;
+pub const HIDDEN_SIZE: Range<usize> = 92..100;
+pub const DATA_SIZE: Range<usize> = 100..108;
+pub const DATA_START: Range<usize> = 108..116;
+pub const ENCRYPTED_SIZE: Range<usize> = 116..124;
+pub const FLAGS: Range<usize> = 124..128;
+pub const SECTOR_SIZE: Range<usize> = 128..132;
+pub const RESERVED_LATE: Range<usize> = 132..252;
+pub const HEADER_CHECKSUM: Range<usize> = 252..256;
+pub const KEYS: Range<usize> = 256..512;
+
+/// What the header checksum is taken of: all before it, but for the salt.
+pub const CHECKED: Range<usize> = 64..252;
+
+fn big_endian(bytes: &[u8]) -> u64 {
+    bytes.iter().fold(0, |number, byte| number * 256 + u64::from(*byte))
+}
+
+fn little_endian(bytes: &[u8]) -> u64 {
+    bytes.iter().rev().fold(0, |number, byte| number * 256 + u64::from(*byte))
+}
+
+fn field(candidate: &[u8], range: Range<usize>) -> u64 {
+    big_endian(&candidate[range])
+}
+
+fn is_vera(candidate: &[u8]) -> bool {
+    candidate[MAGIC] == *b"VERA"
+}
+
+fn is_true(candidate: &[u8]) -> bool {
+    candidate[MAGIC] == *b"TRUE"
+}
+
+fn is_zero(bytes: &[u8]) -> bool {
+    bytes.iter().all(|byte| *byte == 0)
+}
+
+pub fn is_header(candidate: &[u8]) -> bool {
+    (is_vera(candidate) || is_true(candidate))
+        && u64::from(crc32(&candidate[KEYS])) == field(candidate, KEYS_CHECKSUM)
+        && u64::from(crc32(&candidate[CHECKED])) == field(candidate, HEADER_CHECKSUM)
+}
+
+/// "A header is accepted when these hold, tested in this order": the number of the first line that fails.
+pub fn first_failing_line(candidate: &[u8], kind: u64, host_size: u64) -> Option<u64> {
+    let lines = [
+        (5, version_holds(candidate)),
+        (6, reserved_holds(candidate)),
+        (7, field(candidate, FLAGS) % 4 == 0),
+        (8, field(candidate, SECTOR_SIZE) == 512),
+        (9, hidden_size_holds(candidate, kind)),
+        (10, data_area_holds(candidate, kind, host_size)),
+    ];
+    lines.into_iter().find(|(_, holds)| !holds).map(|(number, _)| number)
+}
+
+fn version_holds(candidate: &[u8]) -> bool {
+    let version = field(candidate, VERSION);
+    if is_vera(candidate) {
+        (2..=5).contains(&version)
+    } else {
+        version == 4 || version == 5
+    }
+}
+
+fn reserved_holds(candidate: &[u8]) -> bool {
+    let unused = is_true(candidate);
+    field(candidate, FLAGS) / 4 == 0
+        && (unused || is_zero(&candidate[RESERVED]))
+        && (unused || is_zero(&candidate[RESERVED_LATE]))
+}
+
+fn hidden_size_holds(candidate: &[u8], kind: u64) -> bool {
+    let hidden_size = field(candidate, HIDDEN_SIZE);
+    if kind == STANDARD {
+        hidden_size == 0
+    } else {
+        hidden_size != 0 && hidden_size == field(candidate, DATA_SIZE)
+    }
+}
+
+fn data_area_holds(candidate: &[u8], kind: u64, host_size: u64) -> bool {
+    data_area_allowed(
+        kind,
+        field(candidate, DATA_START),
+        field(candidate, DATA_SIZE),
+        field(candidate, ENCRYPTED_SIZE),
+        host_size,
+    )
+}
+
+/// "A layout tells": what an accepted candidate gives.
+pub fn layout(candidate: &[u8], kind: u64, host_size: u64, index: usize) -> Layout {
+    Layout {
+        host_size,
+        kind,
+        magic: if is_vera(candidate) { 0 } else { 1 },
+        version: field(candidate, VERSION),
+        min_program_version: little_endian(&candidate[MIN_PROGRAM_VERSION]),
+        data_start: field(candidate, DATA_START),
+        data_size: field(candidate, DATA_SIZE),
+        candidate: index as u64,
+    }
+}

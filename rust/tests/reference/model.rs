@@ -1,0 +1,41 @@
+//! The reference model of two views on one image (document 01, "Demand 3 as one claim").
+//! It keeps its own copy of the image and its own views, and sees nothing of the library's.
+
+use super::access::{read, write, Extent, View};
+
+/// Whose calls: an index into the two views and the two lists.
+pub const OUTER: usize = 0;
+pub const INNER: usize = 1;
+
+/// One call of a list. A read has a buffer's bytes too: those that it is given.
+#[derive(Clone, Debug)]
+pub struct Call {
+    pub writes: bool,
+    pub extent: Extent,
+    pub buffer: Vec<u8>,
+}
+
+/// What a call did: its answer, and its buffer as it was left.
+#[derive(Clone, Debug, PartialEq, Eq)]
+pub struct Outcome {
+    pub answer: u64,
+    pub buffer: Vec<u8>,
+}
+
+pub struct ReferenceModel {
+    pub image: Vec<u8>,
+    pub views: [View; 2],
+}
+
+impl ReferenceModel {
+    pub fn step(&mut self, side: usize, call: &Call) -> Outcome {
+        let view = &mut self.views[side];
+        let mut buffer = call.buffer.clone();
+        let answer = if call.writes {
+            write(view, &mut self.image, call.extent, &buffer)
+        } else {
+            read(view, &self.image, call.extent, &mut buffer)
+        };
+        Outcome { answer, buffer }
+    }
+}

@@ -1,0 +1,166 @@
+//! Document 01's "Numbers on either side", and real headers: the library and the reference both give the
+//! numbers that are printed there.
+
+mod reference;
+
+use ondristela::raw;
+use reference::access::{self, Extent, View};
+use reference::headers::Header;
+use reference::layout::Layout;
+use reference::{opening, sector_map};
+
+const HOST_SIZE: u64 = 1_048_576;
+
+/// The standard volume M and the hidden volume N in it.
+const M: Layout = Layout {
+    host_size: HOST_SIZE,
+    kind: 0,
+    magic: 1,
+    version: 5,
+    min_program_version: 7,
+    data_start: 131_072,
+    data_size: 786_432,
+    candidate: 0,
+};
+const N: Layout = Layout { kind: 1, data_start: 655_360, data_size: 262_144, ..M };
+
+/// Headers of M and N that tcplay made, by location code.
+const REAL_HEADERS: [&[u8; 512]; 4] = [
+    include_bytes!("../../samples/tcplay-1048576-code0.header"),
+    include_bytes!("../../samples/tcplay-1048576-code1.header"),
+    include_bytes!("../../samples/tcplay-1048576-code2.header"),
+    include_bytes!("../../samples/tcplay-1048576-code3.header"),
+];
+
+/// The header of a standard volume of this size.
+fn header(data_size: u64) -> Header {
+    Header {
+        salt: [0; 64],
+        magic: *b"VERA",
+        version: 2,
+        min_program_version: 7,
+        reserved: [0; 16],
+        hidden_size: 0,
+        data_size,
+        data_start: 131_072,
+        encrypted_size: data_size,
+        flags: 0,
+        sector_size: 512,
+        reserved_late: [0; 120],
+        keys: [0x4B; 256],
+    }
+}
+
+fn assert_opens(candidates: &[u8], codes: &[u8], host_size: u64, expected: u64) {
+    let answer = raw::open(candidates, codes, host_size, &mut [0; 8]);
+    let reference = opening::open(candidates, codes, host_size).err().unwrap_or(0);
+    assert_eq!([answer, reference], [expected; 2], "codes {codes:?}, host size {host_size}");
+}
+
+#[test]
+fn real_headers() {
+    for (code, candidate) in REAL_HEADERS.iter().enumerate() {
+        let layout = if code % 2 == 0 { M } else { N };
+        let mut numbers = [0; 8];
+        assert_eq!(raw::open(*candidate, &[code as u8], HOST_SIZE, &mut numbers), 0);
+        assert_eq!(numbers, layout.numbers(), "code {code}");
+        assert_eq!(opening::open(*candidate, &[code as u8], HOST_SIZE), Ok(layout), "code {code}");
+    }
+}
+
+#[test]
+fn host_and_data_sizes() {
+    assert_opens(&header(512).bytes(), &[0], 262_656, 0);
+    assert_opens(&header(512).bytes(), &[0], 262_144, 3);
+    assert_opens(&header(786_432).bytes(), &[0], HOST_SIZE, 0);
+    assert_opens(&header(786_944).bytes(), &[0], HOST_SIZE, 10);
+    assert_opens(&header(0u64.wrapping_sub(512)).bytes(), &[0], HOST_SIZE, 10);
+    assert_opens(&header(512).bytes(), &[0], 1 << 50, 0);
+    assert_opens(&header(512).bytes(), &[0], (1 << 50) + 512, 3);
+}
+
+#[test]
+fn numbers_of_candidates() {
+    for (count, answer) in [(0, 1), (1, 0), (64, 0), (65, 1)] {
+        let candidates = header(512).bytes().repeat(count);
+        assert_opens(&candidates, &vec![0; count], HOST_SIZE, answer);
+    }
+}
+
+fn assert_tweak(layout: &Layout, user: u64, expected: Result<[u8; 2], u64>) {
+    let mut block = [0; 16];
+    let answer = raw::tweak(&layout.numbers(), user, &mut block);
+    let whole = expected.map(|[low, high]| {
+        let mut block = [0; 16];
+        block[..2].copy_from_slice(&[low, high]);
+        block
+    });
+    assert_eq!((answer, block), (whole.err().unwrap_or(0), whole.unwrap_or_default()), "sector {user}");
+    assert_eq!(sector_map::tweak_block(layout, user), whole, "sector {user}");
+}
+
+#[test]
+fn tweaks() {
+    assert_tweak(&M, 0, Ok([0x00, 0x01]));
+    assert_tweak(&M, 1_535, Ok([0xFF, 0x06]));
+    assert_tweak(&M, 1_536, Err(16));
+    assert_tweak(&N, 0, Ok([0x00, 0x05]));
+}
+
+#[test]
+fn user_sectors() {
+    for (host, expected) in [(255, Err(16)), (256, Ok(0)), (1_791, Ok(1_535)), (1_792, Err(16))] {
+        let mut user = [0];
+        let answer = raw::user_sector(&M.numbers(), host, &mut user);
+        assert_eq!((answer, user[0]), (expected.err().unwrap_or(0), expected.unwrap_or(0)), "host {host}");
+        assert_eq!(sector_map::user_sector(&M, host), expected, "host {host}");
+    }
+}
+
+/// One view of the library's and the reference's, on an image of zeros.
+struct Both {
+    numbers: [u64; 12],
+    view: View,
+    image: Vec<u8>,
+}
+
+impl Both {
+    fn new(view: View) -> Both {
+        Both { numbers: view.numbers(), view, image: vec![0; HOST_SIZE as usize] }
+    }
+
+    fn assert_write(&mut self, first: u64, count: u64, expected: u64) {
+        let buffer = vec![0; 512 * count as usize];
+        let answer = raw::write(&mut self.numbers, &mut self.image, first, count, &buffer);
+        let reference = access::write(&mut self.view, &mut self.image, Extent { first, count }, &buffer);
+        assert_eq!([answer, reference], [expected; 2], "write {first} count {count}");
+    }
+
+    fn assert_read(&mut self, first: u64, count: u64, expected: u64) {
+        let mut buffer = vec![0; 512 * count as usize];
+        let answer = raw::read(&self.numbers, &self.image, first, count, &mut buffer);
+        let reference = access::read(&self.view, &self.image, Extent { first, count }, &mut buffer);
+        assert_eq!([answer, reference], [expected; 2], "read {first} count {count}");
+    }
+}
+
+#[test]
+fn protected_writes() {
+    let mut both = Both::new(access::protected(&M, &N).unwrap());
+    both.assert_write(1_023, 1, 0);
+    both.assert_write(1_023, 2, 18);
+    both.assert_write(0, 1, 17);
+    both.assert_read(0, 1, 0);
+}
+
+#[test]
+fn writes_at_the_end_and_counts() {
+    let mut both = Both::new(access::plain(&M).unwrap());
+    both.assert_write(1_536, 0, 0);
+    both.assert_write(1_536, 1, 16);
+    both.assert_write(1_537, 0, 16);
+    both.assert_write(0, 128, 0);
+    both.assert_read(0, 128, 0);
+    both.assert_write(0, 129, 14);
+    both.assert_read(0, 129, 14);
+}
