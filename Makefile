@@ -1,4 +1,4 @@
-.PHONY: map test
+.PHONY: map test example bench
 
 # The map program on a sample header: host size 1,048,576, location code 0, 512 header bytes.
 map: target/bin/volmap
@@ -10,3 +10,7 @@ target/bin/volmap: crates.txt $(shell find crates -name '*.rt' -o -name '*.antt'
 
 test:
 	.ci/run
+
+# A tour of the Rust crate on a sample image of its own.
+example:
+	@cargo run --quiet --release --offline --manifest-path rust/Cargo.toml --example volumes -- demo target/demo
