@@ -1,5 +1,8 @@
 pub mod AcceptedLaws
 pub mod BlockLaws
+pub mod Boundary
+pub mod BoundaryNumbers
+pub mod BoundaryZero
 pub mod CandidateLaws
 pub mod CheckLaws
 pub mod CoversLaws

@@ -1,3 +1,4 @@
+pub mod Boundary
 pub mod Header
 pub mod Interleaving
 pub mod Opening

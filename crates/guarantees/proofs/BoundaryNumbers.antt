@@ -1,0 +1,51 @@
+-- Layouts and views through their numbers and back, and a view's numbers with its lock closed.
+-- Assumes nothing.
+use Prim.Native.Nat.{ℕ, _<_}
+use native.Mathlib.Omega.{arith}
+use mathlib.Core.Path.{_≡_, refl}
+use mathlib.Core.Bool.{Bool, true, false, cond}
+use mathlib.Core.List.{List}
+use lib.Dec.{ltb}
+use lib.ListN.{length, getD, set}
+use lib.Seq.{getD-set-same, getD-set-other}
+use borrow.Author.Tests.{ltb-true}
+use Rattle.layout.specs.declared.Layout.{Layout}
+use Rattle.view.specs.declared.Protection.{Protection}
+use Rattle.view.specs.declared.Protection.the-variants.{Unprotected, Protected}
+use Rattle.view.specs.declared.View.{View}
+use Rattle.ondristela.specs.Boundary.{layoutNumbers, layoutOf, protectionNumbers, protectionOf, viewNumbers, viewOf}
+
+pub layout-of-numbers : (layout : Layout) → layoutOf (layoutNumbers layout) ≡ layout
+unfolding layoutOf layoutNumbers
+layout-of-numbers layout = refl
+
+-- a view of its three parts
+abbrev pub viewWith : Layout → Protection → Bool → View
+viewWith layout protection locked = record { layout = layout; protection = protection; locked = locked }
+
+view-with-of-numbers : (layout : Layout) (protection : Protection) (locked : Bool)
+    → viewOf (viewNumbers (viewWith layout protection locked)) ≡ viewWith layout protection locked
+unfolding viewOf viewNumbers layoutOf layoutNumbers protectionOf protectionNumbers
+view-with-of-numbers layout Unprotected true = refl
+view-with-of-numbers layout Unprotected false = refl
+view-with-of-numbers layout (Protected first end) true = refl
+view-with-of-numbers layout (Protected first end) false = refl
+
+pub view-of-numbers : (view : View) → viewOf (viewNumbers view) ≡ view
+view-of-numbers view = view-with-of-numbers (view .layout) (view .protection) (view .locked)
+
+-- a store leaves what stands before it
+getD-set-before : (l : List ℕ) (i j v d : ℕ) → ltb j i ≡ true → getD (set l i v) j d ≡ getD l j d
+getD-set-before l i j v d e = getD-set-other l i j v d (λ same. omega (arith, ltb-true j i e))
+
+module _ (numbers : List ℕ) (h : 11 < length numbers) where
+  -- with 1 for the last of a view's numbers they tell the same view, its lock closed
+  view-of-set : viewOf (set numbers 11 1) ≡ viewWith (viewOf numbers .layout) (viewOf numbers .protection) true
+  unfolding viewOf layoutOf
+  view-of-set = simp (getD-set-before numbers 11, getD-set-same numbers 11 1 0 h)
+
+  -- .. and where nothing is stored, its lock as it was
+  pub view-of-cond-set : (closes : Bool) → viewOf (cond closes (set numbers 11 1) numbers)
+      ≡ viewWith (viewOf numbers .layout) (viewOf numbers .protection) (cond closes true (viewOf numbers .locked))
+  view-of-cond-set true = view-of-set
+  view-of-cond-set false = refl
