@@ -48,7 +48,7 @@
  *     }
  *
  * Linking. `rt staticlib ondristela` proves the library and writes target/staticlib/libondristela.a, for
- * x86-64 Linux. It needs no other library and no flag of its own; this header needs C11 or C++11:
+ * x86-64 Linux. It needs only the C library, and no flag of its own; this header needs C11 or C++11:
  *
  *   gcc recorder.c -Iinclude -Ltarget/staticlib -londristela
  */

@@ -70,6 +70,10 @@ module _ (view : View) (imageSize first count bufferSize : ℕ) where
   unfolding soundView
   passed-layout p = and-true-left (sound (view .layout)) (protectionRule (view .layout) (view .protection)) (p .soundness)
 
+  -- the buffer has the bytes of at most 128 sectors
+  pub passed-buffer : Passed → bufferSize ≤ 65536
+  passed-buffer p = omega (arith, p .few, p .bufferWhole)
+
   -- past the checks of every call, the later ones decide
   pub checked-passed : Passed → (later : ℕ) → checked view imageSize first count bufferSize later ≡ later
   unfolding checked

@@ -5,7 +5,9 @@ ghost use mathlib.Core.Bool.{true};
 ghost use Prim.Native.Nat.{_+_, _≤_};
 ghost use Rattle.layout.specs.Soundness.{sound};
 ghost use Rattle.sector_map.specs.SectorMap.{sectors};
+ghost use mathlib.Core.List.{_++_};
 ghost use lib.Dec.{leb};
+ghost use lib.ListN.{length, drop};
 ghost use Rattle.view.specs.Access.{ReadPost, WritePost, readNumber, writeNumber, answerNumber, after, touches, extentStart};
 ghost use Rattle.view.specs.Views.{plainView, protectedView, soundView, protectionRule, nests, areaEnd, viewedRefusal};
 use layout::Layout;
@@ -13,6 +15,9 @@ use layout::SECTOR_SIZE;
 
 // At most so many sectors in one call.
 pub const MAX_COUNT: u64 = 128;
+
+// The bytes of so many sectors.
+const MAX_BUFFER: usize = 65_536;
 
 // What a view's writes may not touch: nothing, or the bytes from the first up to, not including, the
 // second.
@@ -118,7 +123,7 @@ impl View {
         let layout = self.layout;
         let start = extent_start(layout, first) as usize;
         let end = start + buffer.len();
-        bytes::copy(&image[start..end], buffer);
+        copy_sectors(&image[start..end], buffer);
         Outcome {
             view: self,
             answer: Answer::Accepted,
@@ -140,12 +145,25 @@ impl View {
         }
         let layout = self.layout;
         let start = extent_start(layout, first) as usize;
-        bytes::copy(buffer, &mut image[start..]);
+        copy_sectors(buffer, &mut image[start..]);
         Outcome {
             view: self,
             answer: Answer::Accepted,
         }
     }
+}
+
+// Copies all of from over the start of to, by way of a local buffer: the compiler makes one move of the
+// two copies, and of a single copy a loop, which is slower.
+fn copy_sectors(from: &[u8], to: &mut [u8])
+    requires { ⌜ length (now from) ≤ 65536 ⌝ }
+    requires { ⌜ length (now from) ≤ length (now to) ⌝ }
+    ensures { λ _. ⌜ now (to .exit) ≡ now (from .entry) ++ drop (length (now (from .entry))) (now (to .entry)) ⌝ }
+{
+    let mut sectors = [0u8; MAX_BUFFER];
+    bytes::copy(from, &mut sectors);
+    let size = from.len();
+    bytes::copy(&sectors[..size], to);
 }
 
 // The first refusal among the checks of every call, or 0.

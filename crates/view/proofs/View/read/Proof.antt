@@ -2,8 +2,8 @@
 -- Assumes nothing.
 use Prim.Native.Nat.{ℕ}
 use mathlib.Core.Path.{ap₂}
-use Rattle.view.proofs.CopyLaws.{copy-out}
-use Rattle.view.proofs.AccessLaws.{Passed, read-passed, passed-layout, passed-extent}
+use Rattle.view.proofs.CopyLaws.{part-length, copy-out}
+use Rattle.view.proofs.AccessLaws.{Passed, read-passed, passed-layout, passed-extent, passed-buffer}
 use Rattle.layout.specs.Rules.{maxHostSize}
 use Prim.Native.Nat.{_+_, _≤_}
 use mathlib.Core.Path.{refl, sym, _∙_}
@@ -41,17 +41,23 @@ extent-start-requires c κs = (passed-layout (c .before .before .before .before 
 add-end : tie.Need-add-end
 add-end c = record { fits = omega (arith, c .extent-start .ensures, extent c) }
 
-sub-copy : tie.Need-sub-copy
-sub-copy c = search needs
+sub-copy-sectors : tie.Need-sub-copy-sectors
+sub-copy-sectors c = search needs
 
-part-copy-start : tie.Need-part-copy-start
-part-copy-start c = search needs
+part-copy-sectors-start : tie.Need-part-copy-sectors-start
+part-copy-sectors-start c = search needs
 
-part-copy-end : tie.Need-part-copy-end
-part-copy-end c = omega (arith, c .extent-start .ensures, extent c)
+part-copy-sectors-end : tie.Need-part-copy-sectors-end
+part-copy-sectors-end c = omega (arith, c .extent-start .ensures, extent c)
 
-copy-requires : tie.Need-copy-requires
-copy-requires c κs = search needs
+copy-sectors-requires : tie.Need-copy-sectors-requires
+copy-sectors-requires c κs =
+    let a = c .before .before .before .before .before .before .before .before .args in
+    let start = c .before .before .extent-start in
+    let fits : start .result + length (now (a .buffer)) ≤ length (now (a .image)) = omega (arith, start .ensures, extent (c .before .before)) in
+    let whole = part-length (now (a .image)) (length (now (a .buffer))) (start .result) fits in
+    let small = passed-buffer (a .self) (length (now (a .image))) (a .first) (a .count) (length (now (a .buffer))) (passed (c .before .before .before .before)) in
+    (omega (arith, whole, small), search needs)
 
 same-length : tie.Need-same-length
 same-length c = search needs
@@ -69,7 +75,7 @@ returns-2 c =
       answers = simp (← e, z);
       fills =
           simp (← e, z)
-          (c .before .before .copy .ensures .1 ∙ copy-out (now (a .image)) (now (a .buffer)) (start .result) fits
+          (c .before .before .copy-sectors .ensures ∙ copy-out (now (a .image)) (now (a .buffer)) (start .result) fits
           ∙ ap₂ (λ (size offset : ℕ). take size (drop offset (now (a .image)))) (passed (c .before .before .before .before .before .before .before) .bufferWhole) (start .ensures));
     }
 
@@ -81,9 +87,9 @@ read-spec =
     returns
     extent-start-requires
     add-end
-    sub-copy
-    part-copy-start
-    part-copy-end
-    copy-requires
+    sub-copy-sectors
+    part-copy-sectors-start
+    part-copy-sectors-end
+    copy-sectors-requires
     same-length
     returns-2)

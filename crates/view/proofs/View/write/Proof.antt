@@ -11,7 +11,7 @@ use lib.ListN.{length, length-drop}
 use borrow.Author.Tests.{ne-eqb}
 use Rattle.layout.specs.Rules.{maxHostSize}
 use Rattle.view.specs.Access.{answered, after, extentStart, overlay}
-use Rattle.view.proofs.AccessLaws.{Passed, write-passed, passed-layout, passed-extent}
+use Rattle.view.proofs.AccessLaws.{Passed, write-passed, passed-layout, passed-extent, passed-buffer}
 use Rattle.view.proofs.CopyLaws.{take-rest, copy-in}
 use Rattle.view.proofs.View.write.Statement.{statement}
 use Rattle.view.proofs.View.write.Tie as tie
@@ -43,17 +43,21 @@ returns c =
 extent-start-requires : tie.Need-extent-start-requires
 extent-start-requires c κs = (passed-layout (c .before .before .before .before .before .args .self) (length (now (c .before .before .before .before .before .args .image))) (c .before .before .before .before .before .args .first) (c .before .before .before .before .before .args .count) (length (now (c .before .before .before .before .before .args .buffer))) (passed (c .before)), omega (arith, passed (c .before) .inside))
 
-sub-copy : tie.Need-sub-copy
-sub-copy c = omega (arith, c .extent-start .ensures, extent c)
+sub-copy-sectors : tie.Need-sub-copy-sectors
+sub-copy-sectors c = omega (arith, c .extent-start .ensures, extent c)
 
-part-copy-start : tie.Need-part-copy-start
-part-copy-start c = omega (arith, c .extent-start .ensures, extent c)
+part-copy-sectors-start : tie.Need-part-copy-sectors-start
+part-copy-sectors-start c = omega (arith, c .extent-start .ensures, extent c)
 
-part-copy-end : tie.Need-part-copy-end
-part-copy-end c = search needs
+part-copy-sectors-end : tie.Need-part-copy-sectors-end
+part-copy-sectors-end c = search needs
 
-copy-requires : tie.Need-copy-requires
-copy-requires c κs = simp (take-rest, length-drop) (omega (arith, c .before .extent-start .ensures, extent (c .before)))
+copy-sectors-requires : tie.Need-copy-sectors-requires
+copy-sectors-requires c κs =
+    let a = c .before .before .before .before .before .before .before .args in (
+      passed-buffer (a .self) (length (now (a .image))) (a .first) (a .count) (length (now (a .buffer))) (passed (c .before .before .before)),
+      simp (take-rest, length-drop) (omega (arith, c .before .extent-start .ensures, extent (c .before))),
+    )
 
 same-length : tie.Need-same-length
 same-length c = search needs
@@ -70,7 +74,7 @@ returns-2 c =
       answers = simp (← e, z);
       writes =
           simp (← e, z)
-          (ap (λ (bytes : List ℕ). putMid (start .result) (length (now (a .image)) - start .result) (now (a .image)) bytes) (c .before .before .copy .ensures .1)
+          (ap (λ (bytes : List ℕ). putMid (start .result) (length (now (a .image)) - start .result) (now (a .image)) bytes) (c .before .before .copy-sectors .ensures)
           ∙ copy-in (now (a .image)) (now (a .buffer)) (start .result)
           ∙ ap (λ (offset : ℕ). overlay offset (now (a .buffer)) (now (a .image))) (start .ensures));
     }
@@ -83,9 +87,9 @@ write-spec =
     after-refusal-requires
     returns
     extent-start-requires
-    sub-copy
-    part-copy-start
-    part-copy-end
-    copy-requires
+    sub-copy-sectors
+    part-copy-sectors-start
+    part-copy-sectors-end
+    copy-sectors-requires
     same-length
     returns-2)
