@@ -1,2 +1,4 @@
+pub mod StepLaws
+pub mod TableLaws
+pub mod WordLaws
 pub mod XorLaws
-pub mod Crc32Laws

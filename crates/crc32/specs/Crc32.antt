@@ -2,7 +2,6 @@
 use Prim.Native.Nat.{ℕ, zero, suc, _*_, _/_, _%_}
 use mathlib.Core.List.{List, [], _∷_}
 use lib.Bits.{bitXor}
-use lib.ListN.{getD}
 
 -- one bit: the register moves down by one bit, and takes the polynomial where the bit that fell out was 1
 unfoldable pub bitStep : ℕ → ℕ
@@ -21,21 +20,3 @@ crcFrom c (b ∷ bs) = crcFrom (bitSteps 8 (bitXor b c)) bs
 -- the checksum: the register starts as FFFFFFFF and ends with an exclusive-or by FFFFFFFF
 unfoldable pub crc32 : List ℕ → ℕ
 crc32 bs = bitXor 0xFFFFFFFF (crcFrom 0xFFFFFFFF bs)
-
--- the n numbers f k, f (k + 1), ..
-unfoldable pub entries : (ℕ → ℕ) → ℕ → ℕ → List ℕ
-entries f zero k = []
-entries f (suc n) k = f k ∷ entries f n (suc k)
-
--- the table of the polynomial: what eight bits make of each number below 256
-unfoldable pub crcTable : List ℕ
-crcTable = entries (bitSteps 8) 256 0
-
--- the register c after the bytes, by any table t: an entry of t stands for eight bits
-unfoldable pub tableCrcFrom : List ℕ → ℕ → List ℕ → ℕ
-tableCrcFrom t c [] = c
-tableCrcFrom t c (b ∷ bs) = tableCrcFrom t (bitXor (getD t (bitXor b c % 256) 0) (bitXor b c / 256)) bs
-
--- the checksum by any table t; by `crcTable` it is `crc32`
-unfoldable pub tableCrc : List ℕ → List ℕ → ℕ
-tableCrc t bs = bitXor 0xFFFFFFFF (tableCrcFrom t 0xFFFFFFFF bs)

@@ -11,7 +11,7 @@ use lib.ListN.{length}
 use Rattle.numbers.specs.Numbers.{bigEndian}
 use Rattle.crc32.specs.Crc32.{crc32}
 use Rattle.header.specs.Bytes.{part, sameBytes, allZero}
-use Rattle.header.specs.Header.{veraMagic, trueMagic, magicOf, checksumsMatch, isHeaderBy}
+use Rattle.header.specs.Header.{veraMagic, trueMagic, magicOf, checksumsMatch, isHeader}
 use Rattle.guarantees.specs.Header.{IsVera, IsTrue, IsHeader, AllZero}
 use Rattle.guarantees.proofs.Reflects.{Reflects, holds, fails, reflects-map, reflects-and, reflects-eqb, reflects-nil, reflects-cons}
 
@@ -55,8 +55,8 @@ magic-reflects (spellsVera v g) = holds (inl v)
 magic-reflects (spellsTrue t f) = holds (inr t)
 magic-reflects (spellsNeither f) = fails f
 
-pub is-header-reflects : (h : List ℕ) → length h ≡ 512 → Reflects (IsHeader h) (isHeaderBy crc32 h)
-unfolding isHeaderBy checksumsMatch
+pub is-header-reflects : (h : List ℕ) → length h ≡ 512 → Reflects (IsHeader h) (isHeader h)
+unfolding isHeader checksumsMatch
 is-header-reflects h size =
     reflects-map (λ p. record { magic = p .0 .1; keys = p .1 .0; fields = p .1 .1 }) (λ r. ((size, r .magic), (r .keys, r .fields)))
     (reflects-and (reflects-and (reflects-eqb (length h) 512) (magic-reflects (magic-of-says h)))

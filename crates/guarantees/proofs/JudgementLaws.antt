@@ -11,7 +11,7 @@ use borrow.Author.Tests.{ne-eqb}
 use Rattle.layout.specs.declared.Layout.{Layout}
 use Rattle.layout.specs.declared.Opened.{Opened}
 use Rattle.layout.specs.declared.Opened.the-variants.{Accepted, Refused}
-use Rattle.header.specs.Header.{magicOf, fieldsOf, firstBroken, layoutOf, answer, judgeBy, judge}
+use Rattle.header.specs.Header.{magicOf, fieldsOf, firstBroken, layoutOf, answer, judge}
 use Rattle.guarantees.specs.Header.{IsHeader, Line, version, reserved, flags, sectorSize, hiddenSize, dataArea, number, Keeps, FirstBroken}
 use Rattle.guarantees.proofs.Reflects.{Reflects, holds, fails, below-suc}
 use Rattle.guarantees.proofs.HeaderLaws.{magic-of-says, is-header-reflects}
@@ -88,7 +88,7 @@ module _ (kind hostSize index : ℕ) (h : List ℕ) where
   answer-says r (oneBroken line breaks) = rw (ne-eqb (number line) 0 (omega (arith, number-bounds line))) (refuses r line breaks)
 
   pub judge-says : Kind kind → length h ≡ 512 → Judgement (judge kind hostSize index h)
-  unfolding judge judgeBy
+  unfolding judge
   judge-says k size = go (is-header-reflects h size)
     where
       go : {b : Bool} → Reflects (IsHeader h) b → Judgement (cond b (answer (firstBroken kind hostSize (magicOf h) (fieldsOf h) h) Told) (Refused 4))

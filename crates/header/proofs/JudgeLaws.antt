@@ -6,10 +6,9 @@ use mathlib.Core.Path.{_≡_, ap}
 use mathlib.Core.Bool.{Bool, true, false, cond}
 use mathlib.Core.List.{List}
 use lib.Dec.{eqb}
-use Rattle.crc32.specs.Crc32.{crc32}
 use Rattle.layout.specs.declared.Layout.{Layout}
 use Rattle.layout.specs.declared.Opened.the-variants.{Accepted, Refused}
-use Rattle.header.specs.Header.{magicOf, fieldsOf, isHeaderBy, firstBroken, layoutOf, answer, judgeBy, judge}
+use Rattle.header.specs.Header.{magicOf, fieldsOf, isHeader, firstBroken, layoutOf, answer, judge}
 
 -- a refusal is no acceptance
 pub refused-accepted : (number : ℕ) (layout : Layout) → Refused number ≡ Accepted layout → ⊥
@@ -26,9 +25,9 @@ chosen false b l k number other e = absurd (refused-accepted other k e)
 
 pub judge-accepted : (kind hostSize index : ℕ) (h : List ℕ) (layout : Layout) → judge kind hostSize index h ≡ Accepted layout
     → layoutOf kind hostSize index (magicOf h) (fieldsOf h) ≡ layout
-unfolding judge judgeBy answer
+unfolding judge answer
 judge-accepted kind hostSize index h layout e =
-    chosen (isHeaderBy crc32 h) (eqb (firstBroken kind hostSize (magicOf h) (fieldsOf h) h) 0)
+    chosen (isHeader h) (eqb (firstBroken kind hostSize (magicOf h) (fieldsOf h) h) 0)
     (layoutOf kind hostSize index (magicOf h) (fieldsOf h)) layout (firstBroken kind hostSize (magicOf h) (fieldsOf h) h) 4 e
 
 pub judge-candidate : (kind hostSize index : ℕ) (h : List ℕ) (layout : Layout) → judge kind hostSize index h ≡ Accepted layout → index ≡ layout .candidate

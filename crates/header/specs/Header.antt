@@ -51,14 +51,13 @@ fieldsOf h =
       «sector_size» = bigEndian (part 128 4 h);
     }
 
--- a checksum of the keys, bytes 256 to 511, is the number at 72, and one of the fields, bytes 64 to 251, the number at 252
-unfoldable pub checksumsMatch : (List ℕ → ℕ) → List ℕ → Bool
-checksumsMatch checksum h =
-    eqb (checksum (part 256 256 h)) (bigEndian (part 72 4 h)) && eqb (checksum (part 64 188 h)) (bigEndian (part 252 4 h))
+-- the CRC-32 of the keys, bytes 256 to 511, is the number at 72, and that of the fields, bytes 64 to 251, the number at 252
+unfoldable pub checksumsMatch : List ℕ → Bool
+checksumsMatch h = eqb (crc32 (part 256 256 h)) (bigEndian (part 72 4 h)) && eqb (crc32 (part 64 188 h)) (bigEndian (part 252 4 h))
 
--- the candidate is a header, by a checksum; only 512 bytes are
-unfoldable pub isHeaderBy : (List ℕ → ℕ) → List ℕ → Bool
-isHeaderBy checksum h = eqb (length h) headerBytes && leb (magicOf h) truecrypt && checksumsMatch checksum h
+-- the candidate is a header; only 512 bytes are
+unfoldable pub isHeader : List ℕ → Bool
+isHeader h = eqb (length h) headerBytes && leb (magicOf h) truecrypt && checksumsMatch h
 
 -- line 5, the version: VERA 2 to 5, TRUE 4 or 5
 unfoldable pub versionRule : ℕ → ℕ → Bool
@@ -113,13 +112,9 @@ layoutOf kind hostSize index magic f =
 unfoldable pub answer : ℕ → Layout → Opened
 answer number layout = cond (eqb number 0) (Accepted layout) (Refused number)
 
--- the judgement of one candidate, by a checksum: 4 where it is no header, else by the first line that it breaks
-unfoldable pub judgeBy : (List ℕ → ℕ) → ℕ → ℕ → ℕ → List ℕ → Opened
-judgeBy checksum kind hostSize index h =
-    cond (isHeaderBy checksum h)
+-- the judgement of one candidate: 4 where it is no header, else by the first line that it breaks
+unfoldable pub judge : ℕ → ℕ → ℕ → List ℕ → Opened
+judge kind hostSize index h =
+    cond (isHeader h)
     (answer (firstBroken kind hostSize (magicOf h) (fieldsOf h) h) (layoutOf kind hostSize index (magicOf h) (fieldsOf h)))
     (Refused 4)
-
--- document 01's judgement: by CRC-32
-unfoldable pub judge : ℕ → ℕ → ℕ → List ℕ → Opened
-judge = judgeBy crc32

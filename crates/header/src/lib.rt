@@ -4,12 +4,10 @@ ghost use mathlib.Core.Path.{_≡_};
 ghost use Prim.Native.Nat.{_+_, _≤_};
 ghost use lib.ListN.{length};
 ghost use Rattle.numbers.specs.Numbers.{bigEndian};
-ghost use Rattle.crc32.specs.Crc32.{tableCrc};
 ghost use Rattle.header.specs.Bytes.{part, sameBytes, allZero};
 ghost use Rattle.header.specs.Header.{magicOf, fieldsOf, checksumsMatch};
 ghost use Rattle.header.specs.Header.{versionRule, reservedRule, hiddenSizeRule, areaRule, firstBroken};
-ghost use Rattle.header.specs.Header.{layoutOf, judgeBy};
-ghost use Rattle.header.specs.Header.{judge as judgement};
+ghost use Rattle.header.specs.Header.{layoutOf, judge as judgement};
 use layout::Layout;
 use layout::Opened;
 
@@ -70,21 +68,6 @@ pub struct Fields {
 pub fn judge(candidate: &[u8], kind: u64, host_size: u64, index: u64) -> Opened
     ensures { λ r. ⌜ r ≡ judgement kind «host_size» index (now (candidate .entry)) ⌝ }
 {
-    let table = crc32::table();
-    judge_with(&table, candidate, kind, host_size, index)
-}
-
-// Judges as `judge` does, but with the checksums that any table gives: a search takes
-// `crc32::table` once for all its candidates.
-pub fn judge_with(
-    table: &[u32; 256],
-    candidate: &[u8],
-    kind: u64,
-    host_size: u64,
-    index: u64,
-) -> Opened
-    ensures { λ r. ⌜ r ≡ judgeBy (tableCrc (now (table .entry))) kind «host_size» index (now (candidate .entry)) ⌝ }
-{
     if candidate.len() != SIZE {
         return Opened::Refused(4);
     }
@@ -92,7 +75,7 @@ pub fn judge_with(
     if TRUE < magic {
         return Opened::Refused(4);
     }
-    if !checksums_match(table, candidate) {
+    if !checksums_match(candidate) {
         return Opened::Refused(4);
     }
     let fields = read_fields(candidate);
@@ -133,16 +116,18 @@ fn spells(bytes: &[u8], word: &[u8; 4]) -> bool
 }
 
 // The salt, bytes 0 to 63, is in neither checksum.
-fn checksums_match(table: &[u32; 256], candidate: &[u8]) -> bool
+fn checksums_match(candidate: &[u8]) -> bool
     requires { ⌜ length (now candidate) ≡ 512 ⌝ }
-    ensures { λ r. ⌜ r ≡ checksumsMatch (tableCrc (now (table .entry))) (now (candidate .entry)) ⌝ }
+    ensures { λ r. ⌜ r ≡ checksumsMatch (now (candidate .entry)) ⌝ }
 {
-    let keys = crc32::checksum_with(table, &candidate[KEYS..SIZE]);
-    if keys as u64 != field(candidate, KEY_CHECKSUM, 4) {
+    let checksums = crc32::checksum_pair(
+        &candidate[KEYS..SIZE],
+        &candidate[MAGIC..HEADER_CHECKSUM],
+    );
+    if checksums[0] as u64 != field(candidate, KEY_CHECKSUM, 4) {
         return false;
     }
-    let fields = crc32::checksum_with(table, &candidate[MAGIC..HEADER_CHECKSUM]);
-    fields as u64 == field(candidate, HEADER_CHECKSUM, 4)
+    checksums[1] as u64 == field(candidate, HEADER_CHECKSUM, 4)
 }
 
 // A big-endian number of size bytes.

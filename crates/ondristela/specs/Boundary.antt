@@ -1,7 +1,7 @@
 -- Layouts and views as numbers, and what each answer leaves in the numbers or bytes passed for it: what the contracts of
 -- `ondristela` cite, beside the definitions of the calls below it. Assumes nothing.
 use Prim.Native.Nat.{ℕ}
-use mathlib.Core.Bool.{Bool, not, cond}
+use mathlib.Core.Bool.{not, cond}
 use mathlib.Core.List.{List, [], _∷_, _++_}
 use lib.Dec.{eqb}
 use lib.ListN.{getD, set}

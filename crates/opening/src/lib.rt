@@ -5,7 +5,6 @@ ghost use mathlib.Core.Bool.{true};
 ghost use Prim.Native.Nat.{_*_, _≤_};
 ghost use lib.ListN.{length};
 ghost use denote.Ref.{ptr};
-ghost use Rattle.crc32.specs.Crc32.{crcTable};
 ghost use Rattle.opening.specs.Locations.{located};
 ghost use Rattle.opening.specs.Opening.{lengthsRule, codesRule, judgements, firstRefusal, searchFrom, opened, KeyBytes};
 use header::KEYS;
@@ -98,8 +97,7 @@ pub fn open(candidates: &[u8], codes: &[u8], host_size: u64) -> Opened
     if !layout::is_host_size(host_size) {
         return Opened::Refused(3);
     }
-    let table = crc32::table();
-    search_in_order(&table, candidates, codes, host_size)
+    search_in_order(candidates, codes, host_size)
 }
 
 // The key bytes of the accepted candidate: a part of candidates itself, not a copy. Where opening
@@ -140,9 +138,7 @@ fn codes_known(codes: &[u8]) -> bool
     true
 }
 
-// The search over the candidates, with the table of CRC-32.
-fn search_in_order(table: &[u32; 256], candidates: &[u8], codes: &[u8], host_size: u64) -> Opened
-    requires { ⌜ now table ≡ crcTable ⌝ }
+fn search_in_order(candidates: &[u8], codes: &[u8], host_size: u64) -> Opened
     requires { ⌜ length (now codes) ≤ 64 ⌝ }
     requires { ⌜ length (now candidates) ≡ length (now codes) * 512 ⌝ }
     requires { ⌜ codesRule (now codes) ≡ true ⌝ }
@@ -158,8 +154,7 @@ fn search_in_order(table: &[u32; 256], candidates: &[u8], codes: &[u8], host_siz
         let code = codes[index] as usize;
         let entry = locations[code];
         let start = index * SIZE;
-        let judged = header::judge_with(
-            table,
+        let judged = header::judge(
             &candidates[start..start + SIZE],
             entry.kind,
             host_size,

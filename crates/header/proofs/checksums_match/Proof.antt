@@ -6,17 +6,29 @@ use borrow.Author.Needs.{needs}
 use Rattle.header.proofs.checksums_match.Statement.{statement}
 use Rattle.header.proofs.checksums_match.Tie as tie
 
-sub-checksum-with : tie.Need-sub-checksum-with
-sub-checksum-with c = search needs
+sub-checksum-pair : tie.Need-sub-checksum-pair
+sub-checksum-pair c = search needs
 
-part-checksum-with-start : tie.Need-part-checksum-with-start
-part-checksum-with-start c = search needs
+part-checksum-pair-start : tie.Need-part-checksum-pair-start
+part-checksum-pair-start c = search needs
 
-part-checksum-with-end : tie.Need-part-checksum-with-end
-part-checksum-with-end c = search needs
+part-checksum-pair-end : tie.Need-part-checksum-pair-end
+part-checksum-pair-end c = search needs
 
-checksum-with-requires : tie.Need-checksum-with-requires
-checksum-with-requires c κs = search needs
+sub-checksum-pair-2 : tie.Need-sub-checksum-pair-2
+sub-checksum-pair-2 c = search needs
+
+part-checksum-pair-start-2 : tie.Need-part-checksum-pair-start-2
+part-checksum-pair-start-2 c = search needs
+
+part-checksum-pair-end-2 : tie.Need-part-checksum-pair-end-2
+part-checksum-pair-end-2 c = search needs
+
+checksum-pair-requires : tie.Need-checksum-pair-requires
+checksum-pair-requires c κs = search needs
+
+array-read-if1 : tie.Need-array-read-if1
+array-read-if1 c = search needs
 
 cast-if1 : tie.Need-cast-if1
 cast-if1 c = search needs
@@ -26,19 +38,10 @@ field-requires c κs = search needs
 
 returns : tie.Need-returns
 unfolding checksumsMatch
-returns c = simp (← c .before .before .checksum-with .ensures, ← c .before .field .ensures, ne-eqb _ _ (c .if1 .taken))
+returns c = simp (← c .before .field .ensures, simp (c .before .before .checksum-pair .ensures) at (ne-eqb _ _ (c .if1 .taken)))
 
-sub-checksum-with-2 : tie.Need-sub-checksum-with-2
-sub-checksum-with-2 c = search needs
-
-part-checksum-with-start-2 : tie.Need-part-checksum-with-start-2
-part-checksum-with-start-2 c = search needs
-
-part-checksum-with-end-2 : tie.Need-part-checksum-with-end-2
-part-checksum-with-end-2 c = search needs
-
-checksum-with-requires-2 : tie.Need-checksum-with-requires-2
-checksum-with-requires-2 c κs = search needs
+array-read-result : tie.Need-array-read-result
+array-read-result c = search needs
 
 cast-result : tie.Need-cast-result
 cast-result c = search needs
@@ -50,10 +53,9 @@ returns-2 : tie.Need-returns-2
 unfolding checksumsMatch
 returns-2 c =
     simp (
-      ← c .before .before .before .before .before .checksum-with .ensures,
-      ← c .before .before .before .before .field .ensures,
-      eq-eqb _ _ (c .before .before .before .if1 .left),
-      ← c .before .checksum-with2 .ensures,
+      c .before .before .before .checksum-pair .ensures,
+      ← c .before .before .field .ensures,
+      simp (c .before .before .before .checksum-pair .ensures) at (eq-eqb _ _ (c .before .if1 .left)),
       ← c .field2 .ensures,
     )
 
@@ -61,17 +63,18 @@ pub checksums-match-spec : {M : Type 1} → statement M
 checksums-match-spec =
     tie.close
     (tie.spec
-    sub-checksum-with
-    part-checksum-with-start
-    part-checksum-with-end
-    checksum-with-requires
+    sub-checksum-pair
+    part-checksum-pair-start
+    part-checksum-pair-end
+    sub-checksum-pair-2
+    part-checksum-pair-start-2
+    part-checksum-pair-end-2
+    checksum-pair-requires
+    array-read-if1
     cast-if1
     field-requires
     returns
-    sub-checksum-with-2
-    part-checksum-with-start-2
-    part-checksum-with-end-2
-    checksum-with-requires-2
+    array-read-result
     cast-result
     field-requires-2
     returns-2)

@@ -1,27 +1,83 @@
--- `header::judge` meets its contract: the table's checksum is CRC-32, for every list of bytes.
+-- `header::judge` meets its contract: no header by its length, its magic or its checksums, or judged by the first line it breaks.
 -- Assumes nothing.
-use Prim.Native.Nat.{ℕ}
-use mathlib.Core.List.{List}
-use denote.Ref.{now}
-use Rattle.crc32.specs.Crc32.{tableCrc}
-use mathlib.Core.Path.{ap, _∙_}
-use Rattle.crc32.proofs.Crc32Laws.{table-crc-is-crc32}
-use Rattle.header.specs.Header.{judge, judgeBy}
+use mathlib.Core.Path.{sym, _∙_}
+use borrow.Author.Tests.{eq-eqb, ne-eqb, le-leb, lt-leb, not-true, not-false}
+use Rattle.header.specs.Header.{judge, isHeader, answer}
 use borrow.Author.Needs.{needs}
 use Rattle.header.proofs.judge.Statement.{statement}
 use Rattle.header.proofs.judge.Tie as tie
 
-table-requires : tie.Need-table-requires
-table-requires c κs = search needs
-
-judge-with-requires : tie.Need-judge-with-requires
-judge-with-requires c κs = search needs
-
 returns : tie.Need-returns
-unfolding judge
-returns c =
-    let a = c .before .before .before .before .args in
-    c .judge-with .ensures ∙ ap (λ (f : List ℕ → ℕ). judgeBy f (a .kind) (a .host-size) (a .index) (now (a .candidate))) (ap tableCrc (c .before .before .table .ensures) ∙ table-crc-is-crc32)
+unfolding judge isHeader answer
+returns c = simp (ne-eqb _ _ (c .if1 .taken))
+
+magic-of-requires : tie.Need-magic-of-requires
+magic-of-requires c κs = search needs
+
+returns-2 : tie.Need-returns-2
+unfolding judge isHeader answer
+returns-2 c = simp (eq-eqb _ _ (c .before .before .if1 .left), ← c .before .magic-of .ensures, lt-leb _ _ (c .if2 .taken))
+
+checksums-match-requires : tie.Need-checksums-match-requires
+checksums-match-requires c κs = search needs
+
+returns-3 : tie.Need-returns-3
+unfolding judge isHeader answer
+returns-3 c =
+    simp (
+      eq-eqb _ _ (c .before .before .before .before .if1 .left),
+      ← c .before .before .before .magic-of .ensures,
+      le-leb _ _ (c .before .before .if2 .left),
+      sym (c .before .checksums-match .ensures) ∙ not-true _ (c .if3 .taken),
+    )
+
+read-fields-requires : tie.Need-read-fields-requires
+read-fields-requires c κs = search needs
+
+first-broken-requires : tie.Need-first-broken-requires
+first-broken-requires c κs = search needs
+
+returns-4 : tie.Need-returns-4
+unfolding judge isHeader answer
+returns-4 c =
+    simp (
+      eq-eqb _ _ (c .before .before .before .before .before .before .before .if1 .left),
+      ← c .before .before .before .before .before .before .magic-of .ensures,
+      le-leb _ _ (c .before .before .before .before .before .if2 .left),
+      sym (c .before .before .before .before .checksums-match .ensures) ∙ not-false _ (c .before .before .before .if3 .left),
+      ← c .before .before .read-fields .ensures,
+      ← c .before .first-broken .ensures,
+      ne-eqb _ _ (c .if4 .taken),
+    )
+
+layout-of-requires : tie.Need-layout-of-requires
+layout-of-requires c κs = search needs
+
+returns-5 : tie.Need-returns-5
+unfolding judge isHeader answer
+returns-5 c =
+    simp (
+      eq-eqb _ _ (c .before .before .before .before .before .before .before .before .if1 .left),
+      ← c .before .before .before .before .before .before .before .magic-of .ensures,
+      le-leb _ _ (c .before .before .before .before .before .before .if2 .left),
+      sym (c .before .before .before .before .before .checksums-match .ensures) ∙ not-false _ (c .before .before .before .before .if3 .left),
+      ← c .before .before .before .read-fields .ensures,
+      ← c .before .before .first-broken .ensures,
+      eq-eqb _ _ (c .before .if4 .left),
+      ← c .layout-of .ensures,
+    )
 
 pub judge-spec : {M : Type 1} → statement M
-judge-spec = tie.close (tie.spec table-requires judge-with-requires returns)
+judge-spec =
+    tie.close
+    (tie.spec
+    returns
+    magic-of-requires
+    returns-2
+    checksums-match-requires
+    returns-3
+    read-fields-requires
+    first-broken-requires
+    returns-4
+    layout-of-requires
+    returns-5)

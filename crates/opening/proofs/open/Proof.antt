@@ -38,18 +38,21 @@ returns-3 : tie.Need-returns-3
 unfolding opened
 returns-3 c = simp (lengths-kept (c .before .before .before .before), codes-kept (c .before .before), sym (c .before .is-host-size .ensures) ∙ not-true _ (c .if3 .taken))
 
-table-requires : tie.Need-table-requires
-table-requires c κs = search needs
-
 search-in-order-requires : tie.Need-search-in-order-requires
 search-in-order-requires c κs =
-    let a = c .before .before .before .before .before .before .before .before .before .before .args in
-    let kept = lengths-kept (c .before .before .before .before .before .before) in
-    (c .before .table .ensures, (lengths-most (now (a .candidates)) (now (a .codes)) kept, (lengths-whole (now (a .candidates)) (now (a .codes)) kept, codes-kept (c .before .before .before .before))))
+    let a = c .before .before .before .before .before .before .before .before .args in
+    let kept = lengths-kept (c .before .before .before .before) in
+    (lengths-most (now (a .candidates)) (now (a .codes)) kept, (lengths-whole (now (a .candidates)) (now (a .codes)) kept, codes-kept (c .before .before)))
 
 returns-4 : tie.Need-returns-4
 unfolding opened
-returns-4 c = simp (lengths-kept (c .before .before .before .before .before .before .before), codes-kept (c .before .before .before .before .before), sym (c .before .before .before .before .is-host-size .ensures) ∙ not-false _ (c .before .before .before .if3 .left)) (c .search-in-order .ensures)
+returns-4 c =
+    simp (
+      lengths-kept (c .before .before .before .before .before),
+      codes-kept (c .before .before .before),
+      sym (c .before .before .is-host-size .ensures) ∙ not-false _ (c .before .if3 .left),
+    )
+    (c .search-in-order .ensures)
 
 pub open-spec : {M : Type 1} → statement M
 open-spec =
@@ -61,6 +64,5 @@ open-spec =
     returns-2
     is-host-size-requires
     returns-3
-    table-requires
     search-in-order-requires
     returns-4)

@@ -1,7 +1,6 @@
 -- `opening::search_in_order` meets its contract. The loop's invariant: the search over what is left, with the refusal remembered, is the whole search.
 -- Assumes nothing.
 use native.Mathlib.Nat.{add-sub-cancel-left}
-use Rattle.crc32.proofs.Crc32Laws.{table-crc-is-crc32}
 use Rattle.header.specs.Header.{judge}
 use Rattle.opening.specs.Locations.{locationOf, locations}
 use Rattle.opening.specs.Opening.{candidateAt}
@@ -17,18 +16,18 @@ use Rattle.opening.proofs.search_in_order.Statement.{statement}
 use Rattle.opening.proofs.search_in_order.Tie as tie
 
 abbrev Inv-loop : tie.InvT-loop
-Inv-loop table candidates codes host-size locations first₀ index₀ first index =
+Inv-loop candidates codes host-size locations first₀ index₀ first index =
     (index ≤ length codes) × (searchFrom first (judgements candidates host-size index (drop index codes)) ≡ searchFrom 4 (judgements candidates host-size 0 codes))
 
 abbrev μ-loop : tie.MeasureT-loop
-μ-loop table candidates codes host-size locations first₀ index₀ first index = length codes - index
+μ-loop candidates codes host-size locations first₀ index₀ first index = length codes - index
 
 code-known : (c : tie.After-shared-slice-known3 Inv-loop μ-loop) → getD (now (c .before .before .before .before .before .args .codes)) (c .before .before .loop .index) 0 ≤ 3
-code-known c = codes-rule-at (now (c .before .before .before .before .before .args .codes)) (c .before .before .loop .index) (omega arith) (c .before .before .before .before .before .pre .1 .1 .1)
+code-known c = codes-rule-at (now (c .before .before .before .before .before .args .codes)) (c .before .before .loop .index) (omega arith) (c .before .before .before .before .before .pre .1 .1)
 
-judged : (c : tie.After-judge-with Inv-loop μ-loop) → c .judge-with .result ≡ judge (locationOf (getD (now (c .before .before .before .before .before .before .before .before .args .codes)) (c .before .before .before .before .before .loop .index) 0) .kind) (c .before .before .before .before .before .before .before .before .args .host-size) (c .before .before .before .before .before .loop .index) (candidateAt (c .before .before .before .before .before .loop .index) (now (c .before .before .before .before .before .before .before .before .args .candidates)))
-unfolding judge candidateAt locationOf locations
-judged c = simp (c .before .before .before .before .before .before .before .before .pre .0, table-crc-is-crc32, add-sub-cancel-left) at (c .judge-with .ensures)
+judged : (c : tie.After-judge Inv-loop μ-loop) → c .judge .result ≡ judge (locationOf (getD (now (c .before .before .before .before .before .before .before .before .args .codes)) (c .before .before .before .before .before .loop .index) 0) .kind) (c .before .before .before .before .before .before .before .before .args .host-size) (c .before .before .before .before .before .loop .index) (candidateAt (c .before .before .before .before .before .loop .index) (now (c .before .before .before .before .before .before .before .before .args .candidates)))
+unfolding candidateAt locationOf locations
+judged c = simp add-sub-cancel-left at (c .judge .ensures)
 
 loop-holds : tie.Need-loop-holds Inv-loop μ-loop
 loop-holds c = search needs
@@ -48,20 +47,20 @@ array-copy-out-entry c = omega (arith, code-known c)
 mul-start : tie.Need-mul-start Inv-loop μ-loop
 mul-start c = search needs
 
-add-judge-with : tie.Need-add-judge-with Inv-loop μ-loop
-add-judge-with c = search needs
+add-judge : tie.Need-add-judge Inv-loop μ-loop
+add-judge c = search needs
 
-sub-judge-with : tie.Need-sub-judge-with Inv-loop μ-loop
-sub-judge-with c = search needs
+sub-judge : tie.Need-sub-judge Inv-loop μ-loop
+sub-judge c = search needs
 
-part-judge-with-start : tie.Need-part-judge-with-start Inv-loop μ-loop
-part-judge-with-start c = search needs
+part-judge-start : tie.Need-part-judge-start Inv-loop μ-loop
+part-judge-start c = search needs
 
-part-judge-with-end : tie.Need-part-judge-with-end Inv-loop μ-loop
-part-judge-with-end c = search needs
+part-judge-end : tie.Need-part-judge-end Inv-loop μ-loop
+part-judge-end c = search needs
 
-judge-with-requires : tie.Need-judge-with-requires Inv-loop μ-loop
-judge-with-requires c κs = search needs
+judge-requires : tie.Need-judge-requires Inv-loop μ-loop
+judge-requires c κs = search needs
 
 enum-known-judged : tie.Need-enum-known-judged Inv-loop μ-loop
 enum-known-judged c = search needs
@@ -116,11 +115,11 @@ search-in-order-spec =
     mul-entry
     array-copy-out-entry
     mul-start
-    add-judge-with
-    sub-judge-with
-    part-judge-with-start
-    part-judge-with-end
-    judge-with-requires
+    add-judge
+    sub-judge
+    part-judge-start
+    part-judge-end
+    judge-requires
     enum-known-judged
     enum-known-judged-2
     first-refusal-requires

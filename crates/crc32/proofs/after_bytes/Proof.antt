@@ -1,21 +1,20 @@
--- `crc32::checksum_with` meets its contract. The loop's invariant: the register after what is left of the bytes is that
--- after all of them. Assumes nothing.
-use mathlib.Core.Path.{_≡_, _∙_, ap, sym}
+-- `crc32::after_bytes` meets its contract. The loop's invariant: the register after what is left of the bytes is that after
+-- all of them. Assumes nothing.
+use mathlib.Core.Path.{_≡_, sym, _∙_}
 use Prim.Native.Nat.{_≤_, _-_}
-use lib.Bits.{bitXor}
 use lib.ListN.{length, drop}
 use borrow.Author.Needs.{needs}
-use Rattle.crc32.specs.Crc32.{tableCrcFrom, tableCrc}
-use Rattle.crc32.proofs.Crc32Laws.{table-crc-step, table-crc-end}
-use Rattle.crc32.proofs.checksum_with.Statement.{statement}
-use Rattle.crc32.proofs.checksum_with.Tie as tie
+use Rattle.crc32.specs.Crc32.{crcFrom}
+use Rattle.crc32.proofs.WordLaws.{byte-step, crc-from-end}
+use Rattle.crc32.proofs.after_bytes.Statement.{statement}
+use Rattle.crc32.proofs.after_bytes.Tie as tie
 
 abbrev Inv-loop : tie.InvT-loop
-Inv-loop table bytes crc₀ i₀ crc i =
-    (i ≤ length bytes) × (tableCrcFrom table crc (drop i bytes) ≡ tableCrcFrom table 0xFFFFFFFF bytes)
+Inv-loop tables start bytes crc₀ i₀ crc i =
+    (i ≤ length bytes) × (crcFrom crc (drop i bytes) ≡ crcFrom start bytes)
 
 abbrev μ-loop : tie.MeasureT-loop
-μ-loop table bytes crc₀ i₀ crc i = length bytes - i
+μ-loop tables start bytes crc₀ i₀ crc i = length bytes - i
 
 loop-holds : tie.Need-loop-holds Inv-loop μ-loop
 loop-holds c = search needs
@@ -44,18 +43,16 @@ loop-less c = search needs
 loop-again : tie.Need-loop-again Inv-loop μ-loop
 loop-again c = (
   search needs,
-  table-crc-step _ _ (c .before .before .before .before .loop .crc) (c .before .before .before .before .loop .i)
-      (c .before .wide .result) (search needs) (c .before .wide .ensures)
+  byte-step _ _ (c .before .before .before .before .loop .i) (c .before .wide .result) (c .before .before .before .before .loop .crc)
+      (c .before .before .before .before .before .before .pre) (search needs) (c .before .wide .ensures .0)
       ∙ c .before .before .before .before .loop .inv .1,
 )
 
 returns : tie.Need-returns Inv-loop μ-loop
-unfolding tableCrc
-returns c =
-    ap (bitXor 0xFFFFFFFF) (sym (table-crc-end _ _ (c .before .loop .crc) (c .before .loop .i) (search needs)) ∙ c .before .loop .inv .1)
+returns c = sym (crc-from-end _ (c .before .loop .i) (c .before .loop .crc) (search needs)) ∙ c .before .loop .inv .1
 
-pub checksum-with-spec : {M : Type 1} → statement M
-checksum-with-spec =
+pub after-bytes-spec : {M : Type 1} → statement M
+after-bytes-spec =
     tie.close
     (tie.spec
     Inv-loop

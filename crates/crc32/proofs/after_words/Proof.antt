@@ -1,0 +1,60 @@
+-- `crc32::after_words` meets its contract. The loop's invariant: the register after what is left of the bytes is that after
+-- all of them, and what is left is whole words. Assumes nothing.
+use mathlib.Core.Path.{_≡_, sym, ap, _∙_}
+use Prim.Native.Nat.{ℕ, _+_, _≤_, _-_, _%_}
+use lib.Bits.{bitXor}
+use lib.ListN.{length, drop}
+use borrow.Author.Needs.{needs}
+use Rattle.crc32.specs.Crc32.{bitSteps, crcFrom}
+use Rattle.crc32.proofs.WordLaws.{word-step, crc-from-end}
+use Rattle.crc32.proofs.after_words.Statement.{statement}
+use Rattle.crc32.proofs.after_words.Tie as tie
+
+abbrev Inv-loop : tie.InvT-loop
+Inv-loop tables start bytes crc₀ i₀ crc i =
+    (i ≤ length bytes) × (i % 4 ≡ 0) × (crcFrom crc (drop i bytes) ≡ crcFrom start bytes)
+
+abbrev μ-loop : tie.MeasureT-loop
+μ-loop tables start bytes crc₀ i₀ crc i = length bytes - i
+
+loop-holds : tie.Need-loop-holds Inv-loop μ-loop
+loop-holds c = search needs
+
+word-at-requires : tie.Need-word-at-requires Inv-loop μ-loop
+word-at-requires c κs = search needs
+
+after-word-requires : tie.Need-after-word-requires Inv-loop μ-loop
+after-word-requires c κs = search needs
+
+add-i : tie.Need-add-i Inv-loop μ-loop
+add-i c = search needs
+
+loop-less : tie.Need-loop-less Inv-loop μ-loop
+loop-less c = search needs
+
+loop-again : tie.Need-loop-again Inv-loop μ-loop
+loop-again c = (
+  search needs,
+  search needs,
+  ap (λ (x : ℕ). crcFrom x (drop (c .before .before .before .loop .i + 4) (c .before .before .before .before .before .args .bytes .now)))
+      (c .after-word .ensures ∙ ap (λ (w : ℕ). bitSteps 32 (bitXor w (c .before .before .before .loop .crc))) (c .before .word-at .ensures .0))
+      ∙ word-step _ (c .before .before .before .loop .i) (c .before .before .before .loop .crc) (search needs) (c .before .word-at .ensures .1)
+      ∙ c .before .before .before .loop .inv .2,
+)
+
+returns : tie.Need-returns Inv-loop μ-loop
+returns c = sym (crc-from-end _ (c .before .loop .i) (c .before .loop .crc) (search needs)) ∙ c .before .loop .inv .2
+
+pub after-words-spec : {M : Type 1} → statement M
+after-words-spec =
+    tie.close
+    (tie.spec
+    Inv-loop
+    μ-loop
+    loop-holds
+    word-at-requires
+    after-word-requires
+    add-i
+    loop-less
+    loop-again
+    returns)

@@ -1,0 +1,57 @@
+-- `crc32::sum` meets its contract: the register goes on from the first bytes to the words.
+-- Assumes nothing.
+use mathlib.Core.Path.{sym, ap, _∙_}
+use mathlib.Core.List.{List}
+use Prim.Native.Nat.{ℕ, _-_, _%_, _≤_}
+use native.Mathlib.Omega.{arith}
+use lib.Bits.{bitXor}
+use lib.ListN.{length, take, drop}
+use lib.Seq.{length-take-le}
+use Rattle.crc32.specs.Crc32.{crcFrom, crc32}
+use Rattle.crc32.proofs.WordLaws.{crc-from-parts}
+use borrow.Author.Needs.{needs}
+use Rattle.crc32.proofs.sum.Statement.{statement}
+use Rattle.crc32.proofs.sum.Tie as tie
+
+slice-aggregate-after-bytes : tie.Need-slice-aggregate-after-bytes
+slice-aggregate-after-bytes c =
+    let bytes : List ℕ = c .before .before .args .bytes .now in
+    let few : length bytes % 4 ≤ length bytes = omega arith in
+    sym (length-take-le (length bytes % 4) bytes few)
+
+after-bytes-requires : tie.Need-after-bytes-requires
+after-bytes-requires c κs = search needs
+
+sub-after-words : tie.Need-sub-after-words
+sub-after-words c = search needs
+
+part-after-words-start : tie.Need-part-after-words-start
+part-after-words-start c = search needs
+
+part-after-words-end : tie.Need-part-after-words-end
+part-after-words-end c = search needs
+
+after-words-requires : tie.Need-after-words-requires
+after-words-requires c κs = search needs
+
+returns : tie.Need-returns
+unfolding crc32
+returns c =
+    let bytes : List ℕ = c .before .before .before .before .before .args .bytes .now in
+    let odd : ℕ = length bytes % 4 in
+    ap (bitXor 0xFFFFFFFF)
+    (c .after-words .ensures
+    ∙ ap (λ (crc : ℕ). crcFrom crc (take (length bytes - odd) (drop odd bytes))) (c .before .before .after-bytes .ensures)
+    ∙ crc-from-parts bytes odd 0xFFFFFFFF)
+
+pub sum-spec : {M : Type 1} → statement M
+sum-spec =
+    tie.close
+    (tie.spec
+    slice-aggregate-after-bytes
+    after-bytes-requires
+    sub-after-words
+    part-after-words-start
+    part-after-words-end
+    after-words-requires
+    returns)
