@@ -14,3 +14,7 @@ test:
 # A tour of the Rust crate on a sample image of its own.
 example:
 	@cargo run --quiet --release --offline --manifest-path rust/Cargo.toml --example volumes -- demo target/demo
+
+# The measurements of docs/PERFORMANCE.md. Needs zlib1g-dev.
+bench:
+	cargo bench --offline --manifest-path rust/Cargo.toml --bench boundary -- $(CURDIR)/target/performance.csv
