@@ -1,5 +1,5 @@
 #!/usr/bin/env bash
-# Compiles tests/boundary.c as C11 and as C++ with all warnings, links it with the static library and runs it.
+# Compiles tests/boundary as C11 and as C++ with all warnings, links it with the static library and runs it.
 # The library is libondristela.a in the folder ONDRISTELA_LIB_DIR, by default target/staticlib, where
 # `rt staticlib ondristela` writes it. Fails on a warning, on a failed check, and where the example in
 # include/ondristela.h is not the one that is compiled.
@@ -21,7 +21,7 @@ sanitizers=(-g "-fsanitize=address,undefined" -fno-sanitize-recover=all)
 
 # run NAME COMPILER FLAG..
 run() {
-    "${@:2}" -I"$root/include" "$root/tests/boundary.c" -x none -L"$folder" -londristela -o "$work/boundary"
+    "${@:2}" -I"$root/include" "$root"/tests/boundary/*.c -x none -L"$folder" -londristela -o "$work/boundary"
     printf '%s: ' "$1"
     "$work/boundary"
 }
@@ -32,8 +32,8 @@ links_sanitizers() {
 
 example=$(sed -n '/^ \*     static .*write_outer_sector/,/^ \*     }$/s/^ \* \{0,5\}//p' \
     "$root/include/ondristela.h")
-if [ -z "$example" ] || [[ $(<"$root/tests/boundary.c") != *"$example"* ]]; then
-    echo 'the example in include/ondristela.h is not the function in tests/boundary.c' >&2
+if [ -z "$example" ] || [[ $(<"$root/tests/boundary/example.c") != *"$example"* ]]; then
+    echo 'the example in include/ondristela.h is not the function in tests/boundary/example.c' >&2
     exit 1
 fi
 

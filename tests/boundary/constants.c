@@ -1,0 +1,34 @@
+/* Whether the refusals are document 01's numbers, and CRC-32 of the nine digits is the published one. */
+#include "check.h"
+#include "ondristela.h"
+#include "tests.h"
+
+static void test_refusals(void)
+{
+    static const uint64_t refusals[18] = {
+        ONDRISTELA_REFUSED_LENGTHS,     ONDRISTELA_REFUSED_CODE,        ONDRISTELA_REFUSED_HOST_SIZE,
+        ONDRISTELA_REFUSED_NO_HEADER,   ONDRISTELA_REFUSED_VERSION,     ONDRISTELA_REFUSED_RESERVED,
+        ONDRISTELA_REFUSED_FLAGS,       ONDRISTELA_REFUSED_SECTOR_SIZE, ONDRISTELA_REFUSED_HIDDEN_SIZE,
+        ONDRISTELA_REFUSED_DATA_AREA,   ONDRISTELA_REFUSED_UNSOUND,     ONDRISTELA_REFUSED_NOT_NESTED,
+        ONDRISTELA_REFUSED_IMAGE_SIZE,  ONDRISTELA_REFUSED_COUNT,       ONDRISTELA_REFUSED_BUFFER_SIZE,
+        ONDRISTELA_REFUSED_OUTSIDE,     ONDRISTELA_REFUSED_LOCKED,      ONDRISTELA_REFUSED_PROTECTED};
+    uint64_t number;
+
+    for (number = 1; number <= 18; number++)
+        CHECK(refusals[number - 1] == number);
+    CHECK(ONDRISTELA_ACCEPTED == 0);
+}
+
+static void test_crc32(void)
+{
+    static const uint8_t digits[9] = {'1', '2', '3', '4', '5', '6', '7', '8', '9'};
+
+    CHECK(ondristela_crc32(digits, sizeof digits) == 0xCBF43926);
+    CHECK(ondristela_crc32(digits, 0) == 0);
+}
+
+void test_constants(void)
+{
+    test_refusals();
+    test_crc32();
+}

@@ -1,0 +1,25 @@
+/* Reads and writes of one image of document 01's host, each with a check of what it leaves in memory. */
+#ifndef IMAGE_H
+#define IMAGE_H
+
+#include <stddef.h>
+#include <stdint.h>
+
+#include "ondristela.h"
+
+/* Fills the image with bytes that differ from one sector to the next. Comes before reads and writes. */
+void fill_image(void);
+
+/* Writes bytes that no earlier call wrote. Image and view must be left as document 01 says. */
+uint64_t write_at(struct ondristela_view *view, size_t image_size, uint64_t first, uint64_t count,
+                  size_t buffer_size);
+
+/* Reads. The buffer must be left as document 01 says, the image and what follows the buffer as they were. */
+uint64_t read_at(const struct ondristela_view *view, size_t image_size, uint64_t first, uint64_t count,
+                 size_t buffer_size);
+
+/* The same with the right sizes of image and buffer. */
+uint64_t write_sectors(struct ondristela_view *view, uint64_t first, uint64_t count);
+uint64_t read_sectors(const struct ondristela_view *view, uint64_t first, uint64_t count);
+
+#endif

@@ -1,0 +1,21 @@
+/* The C boundary: document 01's worked cases, and each refusal with what it leaves. Valid as C11 and as
+ * C++11; tests/boundary.sh compiles and runs it as both. Exits 1 where a check fails. */
+#include "check.h"
+#include "image.h"
+#include "tests.h"
+
+int main(void)
+{
+    fill_image();
+    test_constants();
+    test_locations();
+    test_sector_map();
+    test_opening();
+    test_header_rules();
+    test_search();
+    test_views();
+    test_access();
+    test_made_up();
+    test_example();
+    return report_checks();
+}
