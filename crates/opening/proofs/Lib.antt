@@ -1,3 +1,4 @@
+pub mod CodeLaws
 pub mod LocationLaws
 pub mod OpenedLaws
 pub mod SearchLaws

@@ -1,11 +1,11 @@
 // Opening a volume: where its headers lie, which of the candidates is accepted, and its key bytes.
 // Assumes nothing; no public function has a `requires`.
 ghost use mathlib.Core.Path.{_≡_};
-ghost use mathlib.Core.Bool.{true};
+ghost use mathlib.Core.Bool.{true, _&&_};
 ghost use Prim.Native.Nat.{_*_, _≤_};
 ghost use lib.ListN.{length};
 ghost use denote.Ref.{ptr};
-ghost use Rattle.opening.specs.Locations.{located};
+ghost use Rattle.opening.specs.Locations.{codeRule, located};
 ghost use Rattle.opening.specs.Opening.{lengthsRule, codesRule, judgements, firstRefusal, searchFrom, opened, KeyBytes};
 use header::KEYS;
 use header::KEYS_SIZE;
@@ -125,17 +125,28 @@ fn lengths_agree(candidates: &[u8], codes: &[u8]) -> bool
     candidates.len() == codes.len() * SIZE
 }
 
+// Whether every code is known. It goes by the largest code, since a loop that never leaves early runs on several
+// codes at a time.
 fn codes_known(codes: &[u8]) -> bool
     ensures { λ r. ⌜ r ≡ codesRule (now (codes .entry)) ⌝ }
 {
+    let mut largest: u8 = 0;
     let mut i = 0;
     while i < codes.len() {
-        if MAX_CODE < codes[i] {
-            return false;
-        }
+        largest = larger(largest, codes[i]);
         i += 1;
     }
-    true
+    largest <= MAX_CODE
+}
+
+// The larger of two codes is known where both are.
+fn larger(a: u8, b: u8) -> u8
+    ensures { λ r. ⌜ codeRule r ≡ (codeRule a && codeRule b) ⌝ }
+{
+    if a < b {
+        return b;
+    }
+    a
 }
 
 fn search_in_order(candidates: &[u8], codes: &[u8], host_size: u64) -> Opened

@@ -1,51 +1,50 @@
--- `opening::codes_known` meets its contract. The loop's invariant: what is left decides the rule for all.
+-- `opening::codes_known` meets its contract. The loop's invariant: the largest code so far and what is left decide for all.
 -- Assumes nothing.
 use Prim.Native.Nat.{_≤_, _<_, _-_}
 use mathlib.Core.Path.{_≡_, sym, _∙_}
-use denote.Ref.{now}
+use mathlib.Core.Bool.{_&&_}
 use native.Mathlib.Omega.{arith}
-use borrow.Author.Needs.{needs}
+use denote.Ref.{now}
 use lib.ListN.{length, drop}
-use borrow.Author.Tests.{le-leb, lt-leb}
+use borrow.Author.Needs.{needs}
+use Rattle.opening.specs.Locations.{codeRule}
 use Rattle.opening.specs.Opening.{codesRule}
-use Rattle.opening.proofs.SearchLaws.{codes-rule-drop, codes-rule-end}
+use Rattle.opening.proofs.CodeLaws.{codes-step, codes-end}
 use Rattle.opening.proofs.codes_known.Statement.{statement}
 use Rattle.opening.proofs.codes_known.Tie as tie
 
 abbrev Inv-loop : tie.InvT-loop
-Inv-loop codes i₀ i = (i ≤ length codes) × (codesRule (drop i codes) ≡ codesRule codes)
+Inv-loop codes largest₀ i₀ largest i = (i ≤ length codes) × ((codeRule largest && codesRule (drop i codes)) ≡ codesRule codes)
 
 abbrev μ-loop : tie.MeasureT-loop
-μ-loop codes i₀ i = length codes - i
+μ-loop codes largest₀ i₀ largest i = length codes - i
 
 loop-holds : tie.Need-loop-holds Inv-loop μ-loop
+unfolding codeRule
 loop-holds c = search needs
 
-shared-slice-read-if1 : tie.Need-shared-slice-read-if1 Inv-loop μ-loop
-shared-slice-read-if1 c = omega arith
+shared-slice-read-larger : tie.Need-shared-slice-read-larger Inv-loop μ-loop
+shared-slice-read-larger c = search needs
 
-returns : tie.Need-returns Inv-loop μ-loop
-returns c =
-    let codes = now (c .before .before .before .before .args .codes) in
-    let i = c .before .before .before .loop .i in
-    let h : i < length codes = omega arith in
-    simp (lt-leb _ _ (c .if1 .taken)) at (sym (codes-rule-drop codes i h) ∙ c .before .before .before .loop .inv .1)
+larger-requires : tie.Need-larger-requires Inv-loop μ-loop
+larger-requires c κs = search needs
 
 add-i : tie.Need-add-i Inv-loop μ-loop
-add-i c = omega arith
+add-i c = search needs
 
 loop-less : tie.Need-loop-less Inv-loop μ-loop
-loop-less c = omega arith
+loop-less c = search needs
 
 loop-again : tie.Need-loop-again Inv-loop μ-loop
 loop-again c =
-    let codes = now (c .before .before .before .before .args .codes) in
+    let codes = now (c .before .before .before .before .before .args .codes) in
     let i = c .before .before .before .loop .i in
     let h : i < length codes = omega arith in
-    (omega arith, simp (le-leb _ _ (c .if1 .left)) at (sym (codes-rule-drop codes i h) ∙ c .before .before .before .loop .inv .1))
+    (omega arith, codes-step codes i (c .before .before .before .loop .largest) (c .larger .result) h (c .larger .ensures) ∙ c .before .before .before .loop .inv .1)
 
-returns-2 : tie.Need-returns-2 Inv-loop μ-loop
-returns-2 c = sym (codes-rule-end (now (c .before .before .args .codes)) (c .before .loop .i) (omega arith)) ∙ c .before .loop .inv .1
+returns : tie.Need-returns Inv-loop μ-loop
+unfolding codeRule
+returns c = sym (codes-end (now (c .before .before .before .args .codes)) (c .before .loop .i) (c .before .loop .largest) (omega arith)) ∙ c .before .loop .inv .1
 
 pub codes-known-spec : {M : Type 1} → statement M
 codes-known-spec =
@@ -54,9 +53,9 @@ codes-known-spec =
     Inv-loop
     μ-loop
     loop-holds
-    shared-slice-read-if1
-    returns
+    shared-slice-read-larger
+    larger-requires
     add-i
     loop-less
     loop-again
-    returns-2)
+    returns)
