@@ -1,6 +1,7 @@
-// The boundary for C and Rust: one exported function for each public call of the crates below, over
-// numbers and slices. Every function returns 0 where it accepts and else document 01's refusal number.
-// A refusal changes nothing that was passed for writing, but for 18, which closes the view's lock.
+// The boundary for C and Rust: exported functions over numbers and slices, each thin over one public call
+// of the crates below. Every function but the checksum's returns 0 where it accepts, and else document
+// 01's refusal number. A refusal changes nothing that was passed for writing, but for 18, which closes
+// the view's lock.
 // Assumes nothing; no public function has a `requires`.
 ghost use mathlib.Core.Path.{_≡_};
 ghost use Prim.Native.Nat.{_≤_};
@@ -155,6 +156,8 @@ pub extern "C" fn ondristela_crc32(bytes: &[u8]) -> u32
     crc32::checksum(bytes)
 }
 
+// The functions that give an answer return its refusal number, 0 for an acceptance, and store what an
+// acceptance holds.
 fn give_offset(answer: Located, offset: &mut [u64; 1]) -> u64
     ensures { λ r. ⌜ r ≡ locatedNumber answer ⌝ }
     ensures { λ _. ⌜ now (offset .exit) ≡ locatedLeft answer (now (offset .entry)) ⌝ }

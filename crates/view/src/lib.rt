@@ -153,8 +153,8 @@ impl View {
     }
 }
 
-// Copies all of from over the start of to, by way of a local buffer: the compiler makes one move of the
-// two copies, and of a single copy a loop, which is slower.
+// Copies all of from over the start of to, by way of a local buffer: of two copies the compiler makes one
+// move, and of a single one a slower loop.
 fn copy_sectors(from: &[u8], to: &mut [u8])
     requires { ⌜ length (now from) ≤ 65536 ⌝ }
     requires { ⌜ length (now from) ≤ length (now to) ⌝ }
