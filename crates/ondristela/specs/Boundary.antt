@@ -1,10 +1,11 @@
 -- Layouts and views as numbers, and what each answer leaves in the numbers or bytes passed for it: what the contracts of
 -- `ondristela` cite, beside the definitions of the calls below it. Assumes nothing.
 use Prim.Native.Nat.{ℕ}
+use mathlib.Core.Path.{_≡_}
 use mathlib.Core.Bool.{not, cond}
 use mathlib.Core.List.{List, [], _∷_, _++_}
 use lib.Dec.{eqb}
-use lib.ListN.{getD, set}
+use lib.ListN.{length, getD, set}
 use Rattle.layout.specs.declared.Layout.{Layout}
 use Rattle.layout.specs.declared.Opened.{Opened}
 use Rattle.layout.specs.declared.Opened.the-variants as opened
@@ -13,6 +14,7 @@ use Rattle.opening.specs.declared.Located.{Located}
 use Rattle.opening.specs.declared.Located.the-variants as located
 use Rattle.sector_map.specs.declared.Mapped.{Mapped}
 use Rattle.sector_map.specs.declared.Mapped.the-variants as mapped
+use Rattle.view.specs.Access.{readNumber, writeNumber, filledBy, writtenBy}
 use Rattle.view.specs.declared.Protection.{Protection}
 use Rattle.view.specs.declared.Protection.the-variants.{Unprotected, Protected}
 use Rattle.view.specs.declared.View.{View}
@@ -94,3 +96,14 @@ viewedLeft (viewed.Refused number) before = before
 -- what a write leaves of a view's numbers: 18 closes the lock, and nothing else changes them
 unfoldable pub viewLeft : ℕ → List ℕ → List ℕ
 viewLeft number before = cond (eqb number 18) (set before 11 1) before
+
+-- what a read leaves, for a view's numbers: the number that it returns, and the buffer
+pub record ReadCall (view image : List ℕ) (first count : ℕ) (buffer : List ℕ) (number : ℕ) (filled : List ℕ) : Type 0 where
+  pub returns : number ≡ readNumber (viewOf view) (length image) first count (length buffer)
+  pub fills : filled ≡ filledBy (viewOf view) image first count buffer
+
+-- what a write leaves: the number that it returns, the image, and the view's numbers
+pub record WriteCall (view image : List ℕ) (first count : ℕ) (buffer : List ℕ) (number : ℕ) (written left : List ℕ) : Type 0 where
+  pub returns : number ≡ writeNumber (viewOf view) (length image) first count (length buffer)
+  pub writes : written ≡ writtenBy (viewOf view) image first count buffer
+  pub locks : left ≡ viewLeft number view

@@ -11,10 +11,9 @@ ghost use Rattle.layout.specs.Answer.{numberOf};
 ghost use Rattle.opening.specs.Locations.{located, locatedNumber};
 ghost use Rattle.opening.specs.Opening.{opened, keysOffset};
 ghost use Rattle.sector_map.specs.SectorMap.{hostSector, userSector, tweakOf, mappedRefusal};
-ghost use Rattle.view.specs.Access.{readNumber, writeNumber, filledBy, writtenBy};
 ghost use Rattle.view.specs.Views.{plainView, protectedView, viewedRefusal};
 ghost use Rattle.ondristela.specs.Boundary.{layoutNumbers, layoutOf, protectionNumbers, protectionOf, viewNumbers, viewOf};
-ghost use Rattle.ondristela.specs.Boundary.{locatedLeft, openedLeft, keysLeft, mappedLeft, blockLeft, viewedLeft, viewLeft};
+ghost use Rattle.ondristela.specs.Boundary.{locatedLeft, openedLeft, keysLeft, mappedLeft, blockLeft, viewedLeft, viewLeft, ReadCall, WriteCall};
 use layout::Layout;
 use layout::Opened;
 use opening::Located;
@@ -120,8 +119,7 @@ pub extern "C" fn ondristela_read(
     count: u64,
     buffer: &mut [u8],
 ) -> u64
-    ensures { λ r. ⌜ r ≡ readNumber (viewOf (now (view .entry))) (length (now (image .entry))) first count (length (now (buffer .entry))) ⌝ }
-    ensures { λ _. ⌜ now (buffer .exit) ≡ filledBy (viewOf (now (view .entry))) (now (image .entry)) first count (now (buffer .entry)) ⌝ }
+    ensures { λ r. ⌜ ReadCall (now (view .entry)) (now (image .entry)) first count (now (buffer .entry)) r (now (buffer .exit)) ⌝ }
 {
     let told = view_of(view);
     let outcome = told.read(image, first, count, buffer);
@@ -138,9 +136,7 @@ pub extern "C" fn ondristela_write(
     count: u64,
     buffer: &[u8],
 ) -> u64
-    ensures { λ r. ⌜ r ≡ writeNumber (viewOf (now (view .entry))) (length (now (image .entry))) first count (length (now (buffer .entry))) ⌝ }
-    ensures { λ _. ⌜ now (image .exit) ≡ writtenBy (viewOf (now (view .entry))) (now (image .entry)) first count (now (buffer .entry)) ⌝ }
-    ensures { λ _. ⌜ now (view .exit) ≡ viewLeft (writeNumber (viewOf (now (view .entry))) (length (now (image .entry))) first count (length (now (buffer .entry)))) (now (view .entry)) ⌝ }
+    ensures { λ r. ⌜ WriteCall (now (view .entry)) (now (image .entry)) first count (now (buffer .entry)) r (now (image .exit)) (now (view .exit)) ⌝ }
 {
     let told = view_of(view);
     let outcome = told.write(image, first, count, buffer);

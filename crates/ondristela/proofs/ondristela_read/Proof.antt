@@ -1,9 +1,7 @@
 -- `ondristela::ondristela_read` meets its contract: the answer of the view that the numbers tell, as a number.
 -- Assumes nothing.
-use mathlib.Core.Path.{sym, ap, _∙_}
-use Rattle.view.specs.Access.{answerNumber}
-use Rattle.view.proofs.AccessLaws.{answer-number-answered}
 use borrow.Author.Needs.{needs}
+use Rattle.ondristela.proofs.AccessLaws.{read-call}
 use Rattle.ondristela.proofs.ondristela_read.Statement.{statement}
 use Rattle.ondristela.proofs.ondristela_read.Tie as tie
 
@@ -24,8 +22,8 @@ same-length c = search needs
 
 returns : tie.Need-returns
 returns c =
-    rw (sym (c .before .before .before .before .before .view-of .ensures))
-    (c .answer-refusal .ensures ∙ ap answerNumber (c .before .before .before .read .ensures .answers) ∙ answer-number-answered _, c .before .before .before .read .ensures .fills)
+    let told = c .before .before .before .before .before .view-of .ensures in
+    read-call _ _ _ _ _ _ told _ _ (c .answer-refusal .ensures) _ (c .before .before .before .read .ensures)
 
 pub ondristela-read-spec : {M : Type 1} → statement M
 ondristela-read-spec =

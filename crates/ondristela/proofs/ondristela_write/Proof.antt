@@ -1,9 +1,8 @@
 -- `ondristela::ondristela_write` meets its contract: the answer of the view that the numbers tell, as a number, and its lock.
 -- Assumes nothing.
-use mathlib.Core.Path.{sym, ap, _∙_}
-use Rattle.view.specs.Access.{answerNumber}
-use Rattle.view.proofs.AccessLaws.{answer-number-answered}
+use mathlib.Core.Path.{_∙_}
 use borrow.Author.Needs.{needs}
+use Rattle.ondristela.proofs.AccessLaws.{write-call}
 use Rattle.ondristela.proofs.ondristela_write.Statement.{statement}
 use Rattle.ondristela.proofs.ondristela_write.Tie as tie
 
@@ -24,9 +23,11 @@ same-length c = search needs
 
 returns : tie.Need-returns
 returns c =
-    rw (sym (c .before .before .before .before .before .before .before .view-of .ensures))
-    (let number = c .before .before .answer-refusal .ensures ∙ ap answerNumber (c .before .before .before .before .before .write .ensures .answers) ∙ answer-number-answered _ in
-    (c .lock-after .ensures .0 ∙ number, (c .before .before .before .before .before .write .ensures .writes, rw (sym number) (c .lock-after .ensures .1))))
+    let answered = c .before .before in
+    let write = answered .before .before .before in
+    let number = c .lock-after .ensures .0 in
+    write-call _ _ _ _ _ _ (write .before .before .view-of .ensures) _ _ (number ∙ answered .answer-refusal .ensures) _ _ _ number
+    (write .write .ensures) (c .lock-after .ensures .1)
 
 pub ondristela-write-spec : {M : Type 1} → statement M
 ondristela-write-spec =
