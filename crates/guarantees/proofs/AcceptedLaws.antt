@@ -1,25 +1,25 @@
--- What the model's acceptance of a call says, on two layouts from which a protected view is made:
+-- What the model's acceptance of a call says, on two sound layouts that nest:
 -- its host sectors are consecutive and lie in the image, its buffer is as long as they, and a write touches no protected range. Assumes nothing.
 use Prim.Native.Nat.{ℕ, _+_, _*_, _/_, _%_, _≤_}
 use native.Mathlib.Omega.{arith}
 use mathlib.Core.Path.{_≡_, refl}
-use mathlib.Core.Bool.{Bool, true, false, _&&_, cond}
+use mathlib.Core.Bool.{Bool, true, false, _&&_}
 use lib.Dec.{leb, eqb}
 use lib.ListN.{length}
 use borrow.Author.Tests.{leb-true, eqb-true}
 use Rattle.layout.proofs.RuleLaws.{and-true-right}
-use Rattle.layout.specs.Answer.{line}
 use Rattle.layout.specs.Rules.{sectorBytes, hostSizeRule, startRule, endRule, dataAreaRule}
 use Rattle.layout.specs.Soundness.{sound}
 use Rattle.layout.specs.declared.Layout.{Layout}
 use Rattle.sector_map.specs.SectorMap.{sectors, firstSector}
-use Rattle.view.specs.Views.{nests, protectedOf, protectedView}
-use Rattle.view.specs.declared.View.{View}
-use Rattle.view.specs.declared.Viewed.the-variants.{Made, Refused}
-use Rattle.guarantees.specs.ReferenceModel.{Side, outer, hidden, writes, Turn, Model, lockOf, layoutOf, hostsOf, touched, later, judged}
+use Rattle.guarantees.specs.ReferenceModel.{Side, outer, hidden, Turn, Model, lockOf, layoutOf, hostsOf, touched, judged}
+use Rattle.guarantees.specs.Table.{writes, check, later, tabled}
+use Rattle.guarantees.proofs.NestLaws.{Nest}
+use Rattle.guarantees.proofs.Reflects.{is-true}
+use Rattle.guarantees.proofs.SoundLaws.{sound-reflects}
 use Rattle.guarantees.proofs.CoversLaws.{consecutive, covers-consecutive}
 
-lines-kept : (a b c d : Bool) (rest : ℕ) → line 13 a (line 14 b (line 15 c (line 16 d rest))) ≡ 0 → (a ≡ true) × (c ≡ true) × (d ≡ true) × (rest ≡ 0)
+lines-kept : (a b c d : Bool) (rest : ℕ) → check 13 a (check 14 b (check 15 c (check 16 d rest))) ≡ 0 → (a ≡ true) × (c ≡ true) × (d ≡ true) × (rest ≡ 0)
 lines-kept true true true true rest e = (refl, refl, refl, e)
 lines-kept true true true false rest e = absurd (omega arith)
 lines-kept true true false d rest e = absurd (omega arith)
@@ -40,29 +40,24 @@ sectors-fit layout kept =
           (and-true-right (leb sectorBytes area && eqb (area % sectorBytes) 0 && eqb (start % sectorBytes) 0 && startRule (layout .kind) start) (endRule size start area) fits),
     )
 
-both-true : (a b c : Bool) (view : View) → cond (a && b) (cond c (Made view) (Refused 12)) (Refused 11) ≡ Made view → (a ≡ true) × (b ≡ true)
-both-true true true c view e = (refl, refl)
-both-true true false c view e = let z : _≡_ {A = ℕ} 0 1 = cc in absurd (omega arith)
-both-true false b c view e = let z : _≡_ {A = ℕ} 0 1 = cc in absurd (omega arith)
-
 module _ (outerLayout innerLayout : Layout) where
   -- the checks of an accepted call
   pub record Accepted (turn : Turn) (model : Model) : Type 0 where
     pub fits : length (model .image) ≡ layoutOf outerLayout innerLayout (turn .side) .«host_size»
     pub whole : length (turn .call .buffer) ≡ turn .call .count * 512
     pub inside : turn .call .first + turn .call .count ≤ sectors (layoutOf outerLayout innerLayout (turn .side))
-    pub laterKept : later outerLayout innerLayout (turn .call .kind) (lockOf (turn .side) model)
+    pub laterKept : later (turn .call .kind) (lockOf (turn .side) model)
         (touched outerLayout innerLayout (turn .side) (hostsOf outerLayout innerLayout turn)) ≡ 0
 
   pub accepted : (turn : Turn) (model : Model) → judged outerLayout innerLayout turn model ≡ 0 → Accepted turn model
-  unfolding judged sectors
+  unfolding judged tabled sectors
   accepted turn model answer =
       let layout = layoutOf outerLayout innerLayout (turn .side) in
       let call = turn .call in
       let kept =
       lines-kept (eqb (length (model .image)) (layout .«host_size»)) (leb (call .count) 128) (eqb (length (call .buffer)) (call .count * 512))
       (leb (call .first + call .count) (layout .«data_size» / 512))
-      (later outerLayout innerLayout (call .kind) (lockOf (turn .side) model)
+      (later (call .kind) (lockOf (turn .side) model)
       (touched outerLayout innerLayout (turn .side) (hostsOf outerLayout innerLayout turn))) answer in
       record {
         fits = eqb-true (length (model .image)) (layout .«host_size») (kept .0);
@@ -72,7 +67,7 @@ module _ (outerLayout innerLayout : Layout) where
       }
 
   -- an accepted write touches no protected range
-  pub later-untouched : (locked touch : Bool) → later outerLayout innerLayout writes locked touch ≡ 0 → touch ≡ false
+  pub later-untouched : (locked touch : Bool) → later writes locked touch ≡ 0 → touch ≡ false
   unfolding later
   later-untouched false false e = refl
   later-untouched false true e = absurd (omega arith)
@@ -82,22 +77,22 @@ module _ (outerLayout innerLayout : Layout) where
   unfoldable pub firstHost : Turn → ℕ
   firstHost turn = firstSector (layoutOf outerLayout innerLayout (turn .side)) + turn .call .first
 
-  module _ (made : protectedView outerLayout innerLayout ≡ Made (protectedOf outerLayout innerLayout false)) where
-    pub made-sound : (side : Side) → sound (layoutOf outerLayout innerLayout side) ≡ true
-    unfolding layoutOf protectedView
-    made-sound outer = both-true (sound outerLayout) (sound innerLayout) (nests outerLayout innerLayout) (protectedOf outerLayout innerLayout false) made .0
-    made-sound hidden = both-true (sound outerLayout) (sound innerLayout) (nests outerLayout innerLayout) (protectedOf outerLayout innerLayout false) made .1
+  module _ (nest : Nest outerLayout innerLayout) where
+    pub nest-sound : (side : Side) → sound (layoutOf outerLayout innerLayout side) ≡ true
+    unfolding layoutOf
+    nest-sound outer = is-true (sound-reflects outerLayout) (nest .outerSound)
+    nest-sound hidden = is-true (sound-reflects innerLayout) (nest .innerSound)
 
     module _ (turn : Turn) (model : Model) (kept : Accepted turn model) where
       pub hosts-consecutive : hostsOf outerLayout innerLayout turn ≡ consecutive (firstHost turn) (turn .call .count)
       unfolding hostsOf firstHost
       hosts-consecutive =
-          covers-consecutive (layoutOf outerLayout innerLayout (turn .side)) (made-sound (turn .side)) (turn .call .first) (turn .call .count) (kept .inside)
+          covers-consecutive (layoutOf outerLayout innerLayout (turn .side)) (nest-sound (turn .side)) (turn .call .first) (turn .call .count) (kept .inside)
 
       pub hosts-inside : (firstHost turn + turn .call .count) * 512 ≤ length (model .image)
       unfolding firstHost
       hosts-inside =
-          let fit = sectors-fit (layoutOf outerLayout innerLayout (turn .side)) (made-sound (turn .side)) in
+          let fit = sectors-fit (layoutOf outerLayout innerLayout (turn .side)) (nest-sound (turn .side)) in
           let fits = kept .fits in
           let inside = kept .inside in
           omega arith

@@ -1,24 +1,48 @@
--- The boundary for C and Rust: layouts and views come back from their numbers, 0 tells an acceptance, and key bytes lie inside the candidates.
+-- The boundary for C and Rust: each number tells its answer, 0 tells an acceptance, numbers stand in order, and what is stored is the answer.
 -- Assumes nothing.
+use Prim.Native.Nat.{ℕ}
 use native.Mathlib.Omega.{arith}
-use lib.Dec.{eqb}
+use mathlib.Core.Path.{_≡_, refl}
+use mathlib.Core.Bool.{Bool}
+use mathlib.Core.List.{List, [], _∷_, _++_}
+use Rattle.layout.specs.Answer.{numberOf}
+use Rattle.layout.specs.declared.Layout.{Layout}
+use Rattle.opening.specs.Locations.{locatedNumber}
 use Rattle.opening.specs.Opening.{keysOffset, keysSize}
 use Rattle.opening.proofs.OpenedLaws.{opened-inside}
-use Rattle.sector_map.specs.SectorMap.{tweakOf, tweakNumber}
-use Rattle.view.specs.Access.{after}
-use Rattle.ondristela.specs.Boundary.{viewLeft, keysLeft}
-use Rattle.guarantees.specs.Boundary.{BoundaryFaithful}
-use Rattle.guarantees.proofs.BoundaryNumbers.{layout-of-numbers, view-of-numbers, view-of-cond-set}
+use Rattle.sector_map.specs.SectorMap.{tweakOf, tweakNumber, mappedRefusal}
+use Rattle.view.specs.Access.{answerNumber}
+use Rattle.view.specs.Views.{viewedRefusal}
+use Rattle.view.specs.declared.Protection.{Protection}
+use Rattle.view.specs.declared.Protection.the-variants.{Unprotected, Protected}
+use Rattle.ondristela.specs.Boundary.{layoutNumbers, layoutOf, protectionNumbers, protectionOf, viewNumbers, viewOf}
+use Rattle.ondristela.specs.Boundary.{locatedLeft, openedLeft, keysLeft, mappedLeft, blockLeft, viewedLeft, viewLeft}
+use Rattle.guarantees.specs.Boundary.{TellsNumbers, ReturnsZero, OrdersNumbers, storedProtection, StoresAnswers}
+use Rattle.guarantees.proofs.BoundaryNumbers.{view-of-numbers, set-last}
 use Rattle.guarantees.proofs.BoundaryZero.{located-zero, opened-zero, host-sector-zero, user-sector-zero}
 use Rattle.guarantees.proofs.BoundaryZero.{plain-view-zero, protected-view-zero, answered-zero}
+use Rattle.guarantees.proofs.Reflects.{is-false, reflects-eqb}
 
-pub boundary-faithful : BoundaryFaithful
-unfolding viewLeft after tweakOf tweakNumber keysLeft keysOffset keysSize
-boundary-faithful =
+pub tells-numbers : TellsNumbers
+unfolding numberOf locatedNumber mappedRefusal viewedRefusal answerNumber
+tells-numbers =
     record {
-      layouts = layout-of-numbers;
-      views = view-of-numbers;
-      locks = λ number numbers h. view-of-cond-set numbers (omega arith) (eqb number 18);
+      openedAccepted = λ layout. refl;
+      openedRefused = λ number. refl;
+      locatedAccepted = λ offset. refl;
+      locatedRefused = λ number. refl;
+      mappedAccepted = λ sector. refl;
+      mappedRefused = λ number. refl;
+      madeAccepted = λ view. refl;
+      madeRefused = λ number. refl;
+      accessAccepted = refl;
+      accessRefused = λ number. refl;
+    }
+
+pub returns-zero : ReturnsZero
+unfolding tweakOf tweakNumber
+returns-zero =
+    record {
       locates = located-zero;
       opens = opened-zero;
       hostSectors = host-sector-zero;
@@ -28,5 +52,36 @@ boundary-faithful =
       protectedViews = protected-view-zero;
       reads = λ view image first count buffer filled outcome post. rw (post .answers) (answered-zero _);
       writes = λ view image first count buffer written outcome post. rw (post .answers) (answered-zero _);
-      keys = λ candidates codes before hostSize layout e. (rw e, omega (arith, opened-inside candidates hostSize layout codes e .0));
+    }
+
+pub orders-numbers : (host kind magic version program start size candidate protected first end lock : ℕ)
+    → OrdersNumbers host kind magic version program start size candidate protected first end lock
+unfolding layoutOf viewOf protectionOf
+orders-numbers host kind magic version program start size candidate protected first end lock = record { layout = refl; view = refl }
+
+protection-stored : (protection : Protection) → protectionNumbers protection ≡ storedProtection protection
+unfolding protectionNumbers
+protection-stored Unprotected = refl
+protection-stored (Protected first end) = refl
+
+pub stores-answers : (before : List ℕ) → StoresAnswers before
+unfolding locatedLeft openedLeft keysLeft keysOffset keysSize mappedLeft blockLeft viewedLeft viewLeft layoutNumbers viewNumbers
+stores-answers before =
+    record {
+      offset = λ offset. refl;
+      noOffset = λ number. refl;
+      layout = λ layout. refl;
+      noLayout = λ number. refl;
+      keys = λ layout. refl;
+      keysInside = λ candidates codes hostSize layout e. omega (arith, opened-inside candidates hostSize layout codes e .0);
+      noKeys = λ number. refl;
+      sector = λ sector. refl;
+      noSector = λ number. refl;
+      block = λ sector block. refl;
+      noBlock = λ number block. refl;
+      view = λ view. rw (protection-stored (view .protection));
+      viewBack = view-of-numbers;
+      noView = λ number. refl;
+      closes = λ h. set-last before 11 1 h;
+      sameView = λ number f. rw (is-false (reflects-eqb number 18) f);
     }

@@ -1,26 +1,23 @@
 -- Layouts and views through their numbers and back, and a view's numbers with its lock closed.
 -- Assumes nothing.
-use Prim.Native.Nat.{ℕ, _<_}
+use Prim.Native.Nat.{ℕ, suc, _<_}
 use native.Mathlib.Omega.{arith}
-use mathlib.Core.Path.{_≡_, refl}
+use mathlib.Core.Path.{_≡_, refl, sym, ap, _∙_}
 use mathlib.Core.Bool.{Bool, true, false, cond}
-use mathlib.Core.List.{List}
-use lib.Dec.{ltb}
-use lib.ListN.{length, getD, set}
-use lib.Seq.{getD-set-same, getD-set-other}
+use mathlib.Core.List.{List, [], _∷_, _++_}
+use lib.Dec.{ltb, eqb}
+use lib.ListN.{length, getD, set, take, drop}
+use lib.Seq.{getD-set-same, getD-set-other, set-split, drop-length}
 use borrow.Author.Tests.{ltb-true}
 use Rattle.layout.specs.declared.Layout.{Layout}
 use Rattle.view.specs.declared.Protection.{Protection}
 use Rattle.view.specs.declared.Protection.the-variants.{Unprotected, Protected}
 use Rattle.view.specs.declared.View.{View}
-use Rattle.ondristela.specs.Boundary.{layoutNumbers, layoutOf, protectionNumbers, protectionOf, viewNumbers, viewOf}
-
-pub layout-of-numbers : (layout : Layout) → layoutOf (layoutNumbers layout) ≡ layout
-unfolding layoutOf layoutNumbers
-layout-of-numbers layout = refl
+use Rattle.view.specs.Access.{after}
+use Rattle.ondristela.specs.Boundary.{layoutNumbers, layoutOf, protectionNumbers, protectionOf, viewNumbers, viewOf, viewLeft}
 
 -- a view of its three parts
-abbrev pub viewWith : Layout → Protection → Bool → View
+abbrev viewWith : Layout → Protection → Bool → View
 viewWith layout protection locked = record { layout = layout; protection = protection; locked = locked }
 
 view-with-of-numbers : (layout : Layout) (protection : Protection) (locked : Bool)
@@ -45,7 +42,16 @@ module _ (numbers : List ℕ) (h : 11 < length numbers) where
   view-of-set = simp (getD-set-before numbers 11, getD-set-same numbers 11 1 0 h)
 
   -- .. and where nothing is stored, its lock as it was
-  pub view-of-cond-set : (closes : Bool) → viewOf (cond closes (set numbers 11 1) numbers)
+  view-of-cond-set : (closes : Bool) → viewOf (cond closes (set numbers 11 1) numbers)
       ≡ viewWith (viewOf numbers .layout) (viewOf numbers .protection) (cond closes true (viewOf numbers .locked))
   view-of-cond-set true = view-of-set
   view-of-cond-set false = refl
+
+-- the numbers that a write leaves tell the view that it hands back
+pub view-of-left : (number : ℕ) (numbers : List ℕ) → length numbers ≡ 12 → viewOf (viewLeft number numbers) ≡ after (viewOf numbers) number
+unfolding viewLeft after
+view-of-left number numbers h = view-of-cond-set numbers (omega arith) (eqb number 18)
+
+-- a list with another last number
+pub set-last : (l : List ℕ) (n v : ℕ) → length l ≡ suc n → set l n v ≡ take n l ++ (v ∷ [])
+set-last l n v h = set-split l n v (omega arith) ∙ ap (λ (rest : List ℕ). take n l ++ v ∷ rest) (ap (λ (k : ℕ). drop k l) (sym h) ∙ drop-length l)

@@ -6,13 +6,12 @@ use mathlib.Core.Path.{_≡_, refl}
 use mathlib.Core.Logic.{inl, inr}
 use mathlib.Core.List.{List}
 use lib.ListN.{length, getD, length-take, length-drop}
-use Rattle.header.specs.Header.{layoutOf, judge}
+use Rattle.header.specs.Header.{fieldsOf, layoutOf, judge}
 use Rattle.opening.specs.Locations.{locations, locationOf}
 use Rattle.opening.specs.Opening.{candidateAt}
-use Rattle.guarantees.specs.Header.{IsVera, IsTrue}
-use Rattle.guarantees.specs.Opening.{Lengths, candidate, kindOf, Tells}
+use Rattle.guarantees.specs.Header.{KnownKind, IsVera, IsTrue, Tells}
+use Rattle.guarantees.specs.Opening.{Lengths, candidate, kindOf}
 use Rattle.guarantees.proofs.HeaderLaws.{MagicIs, spellsVera, spellsTrue, spellsNeither, magic-of-says}
-use Rattle.guarantees.proofs.LineLaws.{Kind}
 use Rattle.guarantees.proofs.JudgementLaws.{Told, Judgement, judge-says}
 
 location-of-kind : (code : ℕ) → code ≤ 3 → locationOf code .kind ≡ kindOf code
@@ -23,11 +22,11 @@ location-of-kind (suc (suc zero)) h = refl
 location-of-kind (suc (suc (suc zero))) h = refl
 location-of-kind (suc (suc (suc (suc code)))) h = absurd (omega arith)
 
-pub kind-of-says : (code : ℕ) → Kind (kindOf code)
+pub kind-of-says : (code : ℕ) → KnownKind (kindOf code)
 unfolding kindOf
 kind-of-says code = go (code % 2) (omega arith)
   where
-    go : (kind : ℕ) → kind < 2 → Kind kind
+    go : (kind : ℕ) → kind < 2 → KnownKind kind
     go zero h = inl refl
     go (suc zero) h = inr refl
     go (suc (suc kind)) h = absurd (omega arith)
@@ -46,6 +45,21 @@ true-told (spellsVera v g) u = absurd (g u)
 true-told (spellsTrue t f) u = refl
 true-told (spellsNeither f) u = absurd (f (inr u))
 
+pub layout-tells : (kind hostSize index : ℕ) (h : List ℕ) → Tells kind hostSize index h (Told kind hostSize index h)
+unfolding layoutOf fieldsOf
+layout-tells kind hostSize index h =
+    record {
+      hostSizeTold = refl;
+      kindTold = refl;
+      veraTold = vera-told (magic-of-says h);
+      trueTold = true-told (magic-of-says h);
+      versionTold = refl;
+      minProgramVersionTold = refl;
+      startTold = refl;
+      sizeTold = refl;
+      candidateTold = refl;
+    }
+
 module _ (candidates codes : List ℕ) (hostSize i : ℕ) where
   pub judge-at-says : Lengths candidates codes → i < length codes → getD codes i 0 ≤ 3
       → Judgement (kindOf (getD codes i 0)) hostSize i (candidate candidates i)
@@ -55,18 +69,3 @@ module _ (candidates codes : List ℕ) (hostSize i : ℕ) where
       rw location-of-kind
       (judge-says (kindOf (getD codes i 0)) hostSize i (candidate candidates i) (kind-of-says (getD codes i 0))
       (length-candidate candidates codes i lengths inside))
-
-  pub layout-tells : Tells candidates codes hostSize i (Told (kindOf (getD codes i 0)) hostSize i (candidate candidates i))
-  unfolding layoutOf
-  layout-tells =
-      record {
-        hostSizeTold = refl;
-        kindTold = refl;
-        veraTold = vera-told (magic-of-says (candidate candidates i));
-        trueTold = true-told (magic-of-says (candidate candidates i));
-        versionTold = refl;
-        minProgramVersionTold = refl;
-        startTold = refl;
-        sizeTold = refl;
-        candidateTold = refl;
-      }

@@ -8,13 +8,13 @@ use mathlib.Core.Bool.{Bool, true, false, not}
 use mathlib.Core.List.{List}
 use lib.Dec.{leb, eqb}
 use lib.ListN.{length}
-use Rattle.layout.specs.Answer.{line}
 use Rattle.layout.specs.declared.Layout.{Layout}
 use Rattle.sector_map.specs.SectorMap.{sectors}
 use Rattle.view.specs.Access.{checked, touches, readNumber, writeNumber}
-use Rattle.view.specs.Views.{plainOf, protectedOf}
+use Rattle.view.specs.Views.{areaEnd}
 use Rattle.guarantees.specs.Interleaving.{turn}
-use Rattle.guarantees.specs.ReferenceModel.{Side, outer, hidden, Kind, reads, writes, Model, lockOf, layoutOf, hostsOf, touched, later, judged}
+use Rattle.guarantees.specs.ReferenceModel.{Side, outer, hidden, Model, lockOf, layoutOf, hostsOf, touched, judged}
+use Rattle.guarantees.specs.Table.{Kind, reads, writes, check, later, tabled}
 use Rattle.guarantees.proofs.NestLaws.{Nest}
 use Rattle.guarantees.proofs.Reflects.{Reflects, holds, fails, reflects-eqb, reflects-leb}
 use Rattle.guarantees.proofs.StateLaws.{viewFor, sound-view-for}
@@ -28,7 +28,7 @@ pub record Fits (layout : Layout) (imageSize first count bufferSize : ℕ) : Typ
 
 -- the checks of every call on a sound view by what their tests say, and then the later ones
 abbrev inOrder : Bool → Bool → Bool → Bool → ℕ → ℕ
-inOrder sizes counts buffers extents rest = line 13 sizes (line 14 counts (line 15 buffers (line 16 extents rest)))
+inOrder sizes counts buffers extents rest = check 13 sizes (check 14 counts (check 15 buffers (check 16 extents rest)))
 
 in-order-not-18 : (a b c d : Bool) → eqb (inOrder a b c d 0) 18 ≡ false
 in-order-not-18 true true true true = refl
@@ -37,7 +37,7 @@ in-order-not-18 true true false d = refl
 in-order-not-18 true false c d = refl
 in-order-not-18 false b c d = refl
 
-in-order-rest : {P : Type 0} (a b c : Bool) {d : Bool} {rest other : ℕ} → Reflects P d → (P → rest ≡ other)
+pub in-order-rest : {P : Type 0} (a b c : Bool) {d : Bool} {rest other : ℕ} → Reflects P d → (P → rest ≡ other)
     → inOrder a b c d rest ≡ inOrder a b c d other
 in-order-rest a b c (holds p) f = ap (inOrder a b c true) (f p)
 in-order-rest a b c (fails g) f = refl
@@ -49,6 +49,15 @@ in-order-all true rest (holds p) (fails f) d e = absurd (omega arith)
 in-order-all true rest (fails f) c d e = absurd (omega arith)
 in-order-all false rest (holds p) c d e = absurd (omega arith)
 in-order-all false rest (fails f) c d e = absurd (omega arith)
+
+-- .. and so what the checks say of an extent
+pub in-order-fits : (layout : Layout) (imageSize first count bufferSize rest : ℕ)
+    → inOrder (eqb imageSize (layout .«host_size»)) (leb count 128) (eqb bufferSize (count * 512)) (leb (first + count) (sectors layout)) rest ≡ 0
+    → Fits layout imageSize first count bufferSize
+in-order-fits layout imageSize first count bufferSize rest e =
+    let p = in-order-all (leb count 128) rest (reflects-eqb imageSize (layout .«host_size»)) (reflects-eqb bufferSize (count * 512))
+    (reflects-leb (first + count) (sectors layout)) e in
+    record { whole = p .0; sized = p .1; inside = p .2 }
 
 module _ (outerLayout innerLayout : Layout) (side : Side) (first count : ℕ) (buffer : List ℕ) (model : Model) where
   -- the number that the model gives a call of a kind
@@ -63,32 +72,29 @@ module _ (outerLayout innerLayout : Layout) (side : Side) (first count : ℕ) (b
 
   pub judged-fits : (kind : Kind) → numbered kind ≡ 0
       → Fits (layoutOf outerLayout innerLayout side) (length (model .image)) first count (length buffer)
-  unfolding judged sectors
-  judged-fits kind e =
-      let p = in-order-all (leb count 128) _ (reflects-eqb (length (model .image)) size) (reflects-eqb (length buffer) (count * 512))
-      (reflects-leb (first + count) total) e in
-      record { whole = p .0; sized = p .1; inside = p .2 }
+  unfolding judged tabled sectors
+  judged-fits kind = in-order-fits (layoutOf outerLayout innerLayout side) (length (model .image)) first count (length buffer) _
 
   pub judged-reads : eqb (numbered reads) 18 ≡ false
-  unfolding judged later sectors
+  unfolding judged tabled later sectors
   judged-reads = in-order-not-18 (eqb (length (model .image)) size) (leb count 128) (eqb (length buffer) (count * 512)) (leb (first + count) total)
 
 module _ (outerLayout innerLayout : Layout) (nest : Nest outerLayout innerLayout) where
   pub read-number-judged : (side : Side) (first count : ℕ) (buffer : List ℕ) (model : Model)
       → readNumber (viewFor outerLayout innerLayout side (lockOf side model)) (length (model .image)) first count (length buffer)
       ≡ numbered outerLayout innerLayout side first count buffer model reads
-  unfolding readNumber checked viewFor protectedOf plainOf judged later sectors layoutOf
+  unfolding readNumber checked viewFor judged tabled later sectors layoutOf
   read-number-judged outer first count buffer model = rw (sound-view-for outerLayout innerLayout nest outer (lockOf outer model))
   read-number-judged hidden first count buffer model = rw (sound-view-for outerLayout innerLayout nest hidden (lockOf hidden model))
 
   pub write-number-judged : (side : Side) (first count : ℕ) (buffer : List ℕ) (model : Model)
       → writeNumber (viewFor outerLayout innerLayout side (lockOf side model)) (length (model .image)) first count (length buffer)
       ≡ numbered outerLayout innerLayout side first count buffer model writes
-  unfolding writeNumber checked viewFor protectedOf plainOf judged later sectors layoutOf touched touches hostsOf
+  unfolding areaEnd writeNumber checked viewFor judged tabled later sectors layoutOf touched touches hostsOf
   write-number-judged outer first count buffer model =
       rw (sound-view-for outerLayout innerLayout nest outer (lockOf outer model))
       (in-order-rest (eqb (length (model .image)) (outerLayout .«host_size»)) (leb count 128) (eqb (length buffer) (count * 512))
       (reflects-leb (first + count) (sectors outerLayout))
-      (λ inside. ap (λ touch. line 17 (not (lockOf outer model)) (line 18 (not touch) 0))
+      (λ inside. ap (later writes (lockOf outer model))
       (touches-any-protected innerLayout (nest .innerSound) outerLayout (nest .outerSound) first count inside)))
   write-number-judged hidden first count buffer model = rw (sound-view-for outerLayout innerLayout nest hidden (lockOf hidden model))

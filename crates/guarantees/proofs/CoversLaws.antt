@@ -11,7 +11,7 @@ use Rattle.layout.specs.Soundness.{sound}
 use Rattle.layout.specs.declared.Layout.{Layout}
 use Rattle.sector_map.specs.SectorMap.{sectors, firstSector, hostSector}
 use Rattle.sector_map.specs.declared.Mapped.the-variants.{Number}
-use Rattle.guarantees.specs.ReferenceModel.{withHost, covers}
+use Rattle.guarantees.specs.Table.{withHost, covers}
 
 -- so many numbers, from one on
 unfoldable pub consecutive : ℕ → ℕ → List ℕ

@@ -10,7 +10,7 @@ use lib.Seq.{take-at, drop-append-add, drop-drop, take-add}
 use Rattle.layout.specs.declared.Layout.{Layout}
 use Rattle.sector_map.specs.SectorMap.{sectors, firstSector}
 use Rattle.view.specs.Access.{extentStart, overlay}
-use Rattle.guarantees.specs.ReferenceModel.{covers, sectorAt, setSector, lay, gather}
+use Rattle.guarantees.specs.Table.{covers, sectorAt, setSector, lay, gather}
 use Rattle.guarantees.specs.SectorMap.{Sound}
 use Rattle.guarantees.proofs.CoversLaws.{consecutive, covers-consecutive}
 use Rattle.guarantees.proofs.Reflects.{is-true}

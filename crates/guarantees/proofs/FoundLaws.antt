@@ -10,7 +10,7 @@ use Rattle.layout.specs.declared.Layout.{Layout}
 use Rattle.layout.specs.declared.Opened.{Opened}
 use Rattle.layout.specs.declared.Opened.the-variants.{Accepted, Refused}
 use Rattle.guarantees.specs.Header.{IsHeader, Line, number, FirstBroken}
-use Rattle.guarantees.specs.Opening.{candidate, kindOf, IsAccepted, FirstAccepted, FirstHeader, Tells}
+use Rattle.guarantees.specs.Opening.{candidate, kindOf, IsAccepted, FirstAccepted, FirstHeader, TellsAt}
 use Rattle.guarantees.proofs.SearchLaws.{Found, anAccepted, aHeader, noHeader}
 
 same-first : {i j : ℕ} → (i < j → ⊥) → (j < i → ⊥) → i ≡ j
@@ -21,16 +21,16 @@ refused-is-not-accepted e = let z : _≡_ {A = ℕ} 0 1 = cc in omega arith
 
 module _ (candidates codes : List ℕ) (hostSize : ℕ) where
   pub found-accepts : {o : Opened} → Found candidates codes hostSize o → (i : ℕ) → FirstAccepted candidates codes hostSize i
-      → (layout : Layout) × (o ≡ Accepted layout) × Tells candidates codes hostSize i layout
+      → (layout : Layout) × (o ≡ Accepted layout) × TellsAt candidates codes hostSize i layout
   found-accepts (anAccepted j layout r told) i s =
       let same : j ≡ i = same-first (λ lt. s .first j lt (r .accepted)) (λ lt. r .first i lt (s .accepted)) in
-      (layout, refl, subst (λ k. Tells candidates codes hostSize k layout) same told)
+      (layout, refl, subst (λ k. TellsAt candidates codes hostSize k layout) same told)
   found-accepts (aHeader f j line h) i s = absurd (f i (s .accepted))
   found-accepts (noHeader f g) i s = absurd (f i (s .accepted))
 
   pub found-only-accepts : {o : Opened} → Found candidates codes hostSize o → (layout : Layout) → o ≡ Accepted layout
-      → (i : ℕ) × FirstAccepted candidates codes hostSize i × Tells candidates codes hostSize i layout
-  found-only-accepts (anAccepted j given r told) layout e = let same : given ≡ layout = cc in (j, r, subst (Tells candidates codes hostSize j) same told)
+      → (i : ℕ) × FirstAccepted candidates codes hostSize i × TellsAt candidates codes hostSize i layout
+  found-only-accepts (anAccepted j given r told) layout e = let same : given ≡ layout = cc in (j, r, subst (TellsAt candidates codes hostSize j) same told)
   found-only-accepts (aHeader f j line h) layout e = absurd (refused-is-not-accepted e)
   found-only-accepts (noHeader f g) layout e = absurd (refused-is-not-accepted e)
 

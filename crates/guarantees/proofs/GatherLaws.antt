@@ -8,7 +8,8 @@ use mathlib.Core.List.{List, [], _∷_, _++_}
 use lib.ListN.{length}
 use lib.Seq.{take-at, drop-at}
 use Rattle.layout.specs.declared.Layout.{Layout}
-use Rattle.guarantees.specs.ReferenceModel.{isProtected, sectorAt, gather}
+use Rattle.guarantees.specs.ReferenceModel.{isProtected}
+use Rattle.guarantees.specs.Table.{sectorAt, gather}
 use Rattle.guarantees.specs.Interleaving.{unprotectedPieces}
 use Rattle.guarantees.proofs.CoversLaws.{consecutive}
 use Rattle.guarantees.proofs.SectorLaws.{length-sector}

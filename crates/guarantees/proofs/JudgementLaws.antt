@@ -12,10 +12,10 @@ use Rattle.layout.specs.declared.Layout.{Layout}
 use Rattle.layout.specs.declared.Opened.{Opened}
 use Rattle.layout.specs.declared.Opened.the-variants.{Accepted, Refused}
 use Rattle.header.specs.Header.{magicOf, fieldsOf, firstBroken, layoutOf, answer, judge}
-use Rattle.guarantees.specs.Header.{IsHeader, Line, version, reserved, flags, sectorSize, hiddenSize, dataArea, number, Keeps, FirstBroken}
+use Rattle.guarantees.specs.Header.{KnownKind, IsHeader, Line, version, reserved, flags, sectorSize, hiddenSize, dataArea, number, Keeps, FirstBroken}
 use Rattle.guarantees.proofs.Reflects.{Reflects, holds, fails, below-suc}
 use Rattle.guarantees.proofs.HeaderLaws.{magic-of-says, is-header-reflects}
-use Rattle.guarantees.proofs.LineLaws.{Kind, version-reflects, reserved-reflects, flags-reflects}
+use Rattle.guarantees.proofs.LineLaws.{version-reflects, reserved-reflects, flags-reflects}
 use Rattle.guarantees.proofs.LineLaws.{sector-size-reflects, hidden-size-reflects, data-area-reflects}
 
 -- the line of a number
@@ -60,7 +60,7 @@ module _ (kind hostSize : ℕ) (h : List ℕ) where
       after (below-suc KeepsAt (number line) before (λ other e. subst (λ l. Keeps l kind hostSize h) (sym (number-injective other line e)) p))
   line-says line (fails f) before after = oneBroken line (record { broken = f; earlier = λ other lt. before (number other) lt other refl })
 
-  first-broken-says : Kind kind → IsHeader h → BrokenLine (firstBroken kind hostSize (magicOf h) (fieldsOf h) h)
+  first-broken-says : KnownKind kind → IsHeader h → BrokenLine (firstBroken kind hostSize (magicOf h) (fieldsOf h) h)
   unfolding firstBroken number
   first-broken-says k r =
       line-says version (version-reflects kind hostSize h (r .magic) (magic-of-says h)) (λ n lt line e. absurd (omega (arith, number-bounds line))) λ to5.
@@ -87,7 +87,7 @@ module _ (kind hostSize index : ℕ) (h : List ℕ) where
   answer-says r (allKept keeps) = accepts r keeps
   answer-says r (oneBroken line breaks) = rw (ne-eqb (number line) 0 (omega (arith, number-bounds line))) (refuses r line breaks)
 
-  pub judge-says : Kind kind → length h ≡ 512 → Judgement (judge kind hostSize index h)
+  pub judge-says : KnownKind kind → length h ≡ 512 → Judgement (judge kind hostSize index h)
   unfolding judge
   judge-says k size = go (is-header-reflects h size)
     where

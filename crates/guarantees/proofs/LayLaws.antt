@@ -6,7 +6,7 @@ use mathlib.Core.Path.{_≡_, refl, _∙_}
 use mathlib.Core.Bool.{cond}
 use mathlib.Core.List.{List}
 use lib.ListN.{length, take, drop, length-take, length-drop}
-use Rattle.guarantees.specs.ReferenceModel.{sectorAt, setSector, lay}
+use Rattle.guarantees.specs.Table.{sectorAt, setSector, lay}
 use Rattle.guarantees.specs.Interleaving.{pieceFor}
 use Rattle.guarantees.proofs.CoversLaws.{consecutive}
 use Rattle.guarantees.proofs.TestCases.{eqb-cases}

@@ -1,17 +1,21 @@
 pub mod AcceptedLaws
+pub mod Access
 pub mod BlockLaws
 pub mod Boundary
 pub mod BoundaryNumbers
+pub mod BoundaryRuns
 pub mod BoundaryZero
 pub mod CandidateLaws
 pub mod CheckLaws
 pub mod CoversLaws
 pub mod ExtentLaws
 pub mod FoundLaws
+pub mod FromHeaders
 pub mod GatherLaws
 pub mod HeaderLaws
 pub mod Interleaving
 pub mod JudgementLaws
+pub mod Judging
 pub mod LayLaws
 pub mod LineLaws
 pub mod MapLaws
@@ -19,6 +23,7 @@ pub mod ModelIndependent
 pub mod ModelLastWrite
 pub mod NestLaws
 pub mod NextLaws
+pub mod Numbers
 pub mod Opening
 pub mod ProtectedLaws
 pub mod Reflects
@@ -34,5 +39,6 @@ pub mod StateLaws
 pub mod StepLaws
 pub mod TestCases
 pub mod TouchLaws
+pub mod ViewLaws
 pub mod Views
 pub mod WorkedCases

@@ -10,27 +10,23 @@ use lib.Dec.{eqb}
 use Rattle.layout.specs.Rules.{standard, hidden, startRule, endRule, dataAreaRule}
 use Rattle.header.specs.Bytes.{part, allZero}
 use Rattle.header.specs.Header.{fieldsOf, versionRule, reservedRule, flagsRule, sectorSizeRule, hiddenSizeRule, areaRule}
-use Rattle.guarantees.specs.Header.{IsVera, IsTrue, AllZero, version, reserved, flags, sectorSize, hiddenSize, dataArea, DataArea, Keeps}
+use Rattle.guarantees.specs.Header.{KnownKind, IsVera, IsTrue, AllZero, version, reserved, flags, sectorSize, hiddenSize, dataArea, DataArea, Keeps}
 use Rattle.guarantees.proofs.Reflects.{Reflects, holds, fails, reflects-map, reflects-and, reflects-not, reflects-eqb, reflects-leb}
 use Rattle.guarantees.proofs.HeaderLaws.{MagicIs, spellsVera, spellsTrue, spellsNeither, all-zero-reflects}
 
--- one of the two kinds
-abbrev pub Kind : ℕ → Type 0
-Kind kind = (kind ≡ standard) ⊎ (kind ≡ hidden)
-
 -- a test by the kind, which no other kind passes
 kind-reflects : (kind : ℕ) {P Q : Type 0} {a b : Bool} → Reflects P a → Reflects Q b
-    → Reflects (Kind kind × ((kind ≡ standard → P) × (kind ≡ hidden → Q))) (cond (eqb kind standard) a (eqb kind hidden && b))
+    → Reflects (KnownKind kind × ((kind ≡ standard → P) × (kind ≡ hidden → Q))) (cond (eqb kind standard) a (eqb kind hidden && b))
 kind-reflects kind = go (reflects-eqb kind standard) (reflects-eqb kind hidden)
   where
     go : {P Q : Type 0} {a b c d : Bool} → Reflects (kind ≡ standard) c → Reflects (kind ≡ hidden) d → Reflects P a → Reflects Q b
-        → Reflects (Kind kind × ((kind ≡ standard → P) × (kind ≡ hidden → Q))) (cond c a (d && b))
+        → Reflects (KnownKind kind × ((kind ≡ standard → P) × (kind ≡ hidden → Q))) (cond c a (d && b))
     go (holds e) t r s = reflects-map (λ p. (inl e, (λ u. p, λ u. absurd (omega arith)))) (λ k. k .1 .0 e) r
     go (fails f) (holds e) r s = reflects-map (λ q. (inr e, (λ u. absurd (f u), λ u. q))) (λ k. k .1 .1 e) s
     go (fails f) (fails g) r s = fails (λ k. ⊎-elim f g (k .0))
 
 -- .. where the kind is known
-known-reflects : {kind : ℕ} {P : Type 0} {b : Bool} → Kind kind → Reflects (Kind kind × P) b → Reflects P b
+known-reflects : {kind : ℕ} {P : Type 0} {b : Bool} → KnownKind kind → Reflects (KnownKind kind × P) b → Reflects P b
 known-reflects known = reflects-map (λ p. p .1) (λ p. (known, p))
 
 four-or-five : (n : ℕ) → 4 ≤ n → n ≤ 5 → (n ≡ 4) ⊎ (n ≡ 5)
@@ -43,7 +39,7 @@ four-or-five n l m = go (reflects-eqb n 4)
 module _ (kind hostSize : ℕ) (h : List ℕ) where
   pub version-reflects : {magic : ℕ} → IsVera h ⊎ IsTrue h → MagicIs h magic
       → Reflects (Keeps version kind hostSize h) (versionRule magic (fieldsOf h .version))
-  unfolding Keeps versionRule
+  unfolding fieldsOf Keeps versionRule
   version-reflects known (spellsVera v g) =
       reflects-map (λ p. (λ u. (p .1, p .0), λ t. absurd (g t))) (λ k. (k .0 v .1, k .0 v .0))
       (reflects-and (reflects-leb (fieldsOf h .version) 5) (reflects-leb 2 (fieldsOf h .version)))
@@ -63,20 +59,20 @@ module _ (kind hostSize : ℕ) (h : List ℕ) where
 
   pub reserved-reflects : {magic : ℕ} → IsVera h ⊎ IsTrue h → MagicIs h magic
       → Reflects (Keeps reserved kind hostSize h) (reservedRule magic (fieldsOf h .flags) h)
-  unfolding Keeps reservedRule
+  unfolding fieldsOf Keeps reservedRule
   reserved-reflects known m = reflects-and (reflects-eqb (fieldsOf h .flags / 4) 0) (zeros-reflects known m)
 
   pub flags-reflects : Reflects (Keeps flags kind hostSize h) (flagsRule (fieldsOf h .flags))
-  unfolding Keeps flagsRule
+  unfolding fieldsOf Keeps flagsRule
   flags-reflects = reflects-eqb (fieldsOf h .flags % 4) 0
 
   pub sector-size-reflects : Reflects (Keeps sectorSize kind hostSize h) (sectorSizeRule (fieldsOf h .«sector_size»))
-  unfolding Keeps sectorSizeRule
+  unfolding fieldsOf Keeps sectorSizeRule
   sector-size-reflects = reflects-eqb (fieldsOf h .«sector_size») 512
 
-  pub hidden-size-reflects : Kind kind
+  pub hidden-size-reflects : KnownKind kind
       → Reflects (Keeps hiddenSize kind hostSize h) (hiddenSizeRule kind (fieldsOf h .«hidden_size») (fieldsOf h .«data_size»))
-  unfolding Keeps hiddenSizeRule
+  unfolding fieldsOf Keeps hiddenSizeRule
   hidden-size-reflects either =
       let zero = reflects-eqb (fieldsOf h .«hidden_size») 0 in
       rw and-assoc
@@ -85,7 +81,7 @@ module _ (kind hostSize : ℕ) (h : List ℕ) where
 
 -- the last line, over its numbers: no other kind passes it
 pub area-reflects : (kind hostSize start size encryptedSize : ℕ)
-    → Reflects (Kind kind × DataArea kind hostSize start size encryptedSize) (areaRule kind hostSize start size encryptedSize)
+    → Reflects (KnownKind kind × DataArea kind hostSize start size encryptedSize) (areaRule kind hostSize start size encryptedSize)
 unfolding areaRule dataAreaRule startRule endRule
 area-reflects kind hostSize start size encryptedSize =
     reflects-map
@@ -110,8 +106,8 @@ area-reflects kind hostSize start size encryptedSize =
     (kind-reflects kind (reflects-eqb start 131072) (reflects-leb 131072 start)))
     (reflects-leb (start + size + 131072) hostSize)))
 
-pub data-area-reflects : (kind hostSize : ℕ) (h : List ℕ) → Kind kind
+pub data-area-reflects : (kind hostSize : ℕ) (h : List ℕ) → KnownKind kind
     → Reflects (Keeps dataArea kind hostSize h) (areaRule kind hostSize (fieldsOf h .«data_start») (fieldsOf h .«data_size») (fieldsOf h .«encrypted_size»))
-unfolding Keeps
+unfolding fieldsOf Keeps
 data-area-reflects kind hostSize h either =
     known-reflects either (area-reflects kind hostSize (fieldsOf h .«data_start») (fieldsOf h .«data_size») (fieldsOf h .«encrypted_size»))

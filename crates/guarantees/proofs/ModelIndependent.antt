@@ -4,10 +4,10 @@ use mathlib.Core.Path.{_≡_, refl, sym, ap, ap₂, _∙_}
 use mathlib.Core.Bool.{false, not}
 use mathlib.Core.List.{List, [], _∷_}
 use Rattle.layout.specs.declared.Layout.{Layout}
-use Rattle.view.specs.Views.{protectedOf, protectedView}
-use Rattle.view.specs.declared.Viewed.the-variants.{Made}
-use Rattle.guarantees.specs.ReferenceModel.{Side, outer, hidden, Call, Turn, Model, lockOf, isProtected, sectorAt, reply, next, final, replies}
+use Rattle.guarantees.specs.ReferenceModel.{Side, outer, hidden, Call, Turn, Model, lockOf, isProtected, reply, next, final, replies}
+use Rattle.guarantees.specs.Table.{sectorAt}
 use Rattle.guarantees.specs.Interleaving.{turn, Interleaves, none, fromOuter, fromHidden, sideReply, repliesOf, shown}
+use Rattle.guarantees.proofs.NestLaws.{Nest}
 use Rattle.guarantees.proofs.TestCases.{test-cases}
 use Rattle.guarantees.proofs.SectorLaws.{sectors-ext}
 use Rattle.guarantees.proofs.SameLaws.{mayWrite, Same, same-refl, same-sym, same-trans, judged-same, next-same, next-outer-same, next-hidden-same}
@@ -29,7 +29,7 @@ same-both inner model other o h =
     (λ e. o .sameSector host (ap not e))) in
     λ i. record { image = images i; outerLocked = o .sameLock i; hiddenLocked = h .sameLock i }
 
-module _ (outerLayout innerLayout : Layout) (made : protectedView outerLayout innerLayout ≡ Made (protectedOf outerLayout innerLayout false)) where
+module _ (outerLayout innerLayout : Layout) (nest : Nest outerLayout innerLayout) where
   hidden-alone : {xs ys : List Call} {turns : List Turn} → Interleaves xs ys turns → (model other : Model) → Same innerLayout hidden model other
       → Same innerLayout hidden (final outerLayout innerLayout turns model) (final outerLayout innerLayout (only hidden ys) other)
       × (repliesOf outerLayout innerLayout hidden turns (replies outerLayout innerLayout turns model)
@@ -38,12 +38,12 @@ module _ (outerLayout innerLayout : Layout) (made : protectedView outerLayout in
   hidden-alone none model other s = (s, refl)
   hidden-alone (fromOuter {call = call} merged) model other s =
       hidden-alone merged (next outerLayout innerLayout (turn outer call) model) other
-      (same-trans (next-outer-same outerLayout innerLayout made call model) s)
+      (same-trans (next-outer-same outerLayout innerLayout nest call model) s)
   hidden-alone (fromHidden {call = call} merged) model other s =
       let rest =
       hidden-alone merged (next outerLayout innerLayout (turn hidden call) model) (next outerLayout innerLayout (turn hidden call) other)
-      (next-same outerLayout innerLayout made hidden call model other s) in
-      (rest .0, ap₂ _∷_ (reply-hidden-same outerLayout innerLayout made call model other s) (rest .1))
+      (next-same outerLayout innerLayout nest hidden call model other s) in
+      (rest .0, ap₂ _∷_ (reply-hidden-same outerLayout innerLayout nest call model other s) (rest .1))
 
   outer-alone : {xs ys : List Call} {turns : List Turn} → Interleaves xs ys turns → (model other : Model) → Same innerLayout outer model other
       → Same innerLayout outer (final outerLayout innerLayout turns model) (final outerLayout innerLayout (only outer xs) other)
@@ -54,17 +54,17 @@ module _ (outerLayout innerLayout : Layout) (made : protectedView outerLayout in
   outer-alone (fromOuter {call = call} merged) model other s =
       let rest =
       outer-alone merged (next outerLayout innerLayout (turn outer call) model) (next outerLayout innerLayout (turn outer call) other)
-      (next-same outerLayout innerLayout made outer call model other s) in (
+      (next-same outerLayout innerLayout nest outer call model other s) in (
         rest .0,
         λ i. record {
           answer = judged-same outerLayout innerLayout outer call model other s i;
-          pieces = shown-outer-same outerLayout innerLayout made call model other s i;
+          pieces = shown-outer-same outerLayout innerLayout nest call model other s i;
         }
             ∷ rest .1 i,
       )
   outer-alone (fromHidden {call = call} merged) model other s =
       outer-alone merged (next outerLayout innerLayout (turn hidden call) model) other
-      (same-trans (next-hidden-same outerLayout innerLayout made call model) s)
+      (same-trans (next-hidden-same outerLayout innerLayout nest call model) s)
 
   pub model-independent : (xs ys : List Call) (turns others : List Turn) (model : Model) → Interleaves xs ys turns → Interleaves xs ys others
       → (final outerLayout innerLayout turns model ≡ final outerLayout innerLayout others model)

@@ -5,19 +5,19 @@ use mathlib.Core.Path.{_≡_, refl, ap, fun-ext}
 use mathlib.Core.Bool.{false}
 use mathlib.Core.List.{List, [], _∷_}
 use Rattle.layout.specs.declared.Layout.{Layout}
-use Rattle.view.specs.Views.{protectedOf, protectedView}
-use Rattle.view.specs.declared.Viewed.the-variants.{Made}
-use Rattle.guarantees.specs.ReferenceModel.{reads, Turn, Model, sectorAt, gather, hostsOf, bufferAfter, reply, next, final, replies}
+use Rattle.guarantees.specs.ReferenceModel.{Turn, Model, hostsOf, reply, next, final, replies}
+use Rattle.guarantees.specs.Table.{reads, sectorAt, gather, bufferAfter}
 use Rattle.guarantees.specs.Interleaving.{contents}
+use Rattle.guarantees.proofs.NestLaws.{Nest}
 use Rattle.guarantees.proofs.NextLaws.{sector-next}
 
-module _ (outerLayout innerLayout : Layout) (made : protectedView outerLayout innerLayout ≡ Made (protectedOf outerLayout innerLayout false)) where
+module _ (outerLayout innerLayout : Layout) (nest : Nest outerLayout innerLayout) where
   pub model-last-write : (turns : List Turn) (model : Model) (host : ℕ) → sectorAt host (final outerLayout innerLayout turns model .image)
       ≡ contents outerLayout innerLayout host turns (replies outerLayout innerLayout turns model) (sectorAt host (model .image))
   unfolding final replies contents reply
   model-last-write [] model host = refl
   model-last-write (turn ∷ turns) model host =
-      rw (← sector-next outerLayout innerLayout made turn model host) (model-last-write turns (next outerLayout innerLayout turn model) host)
+      rw (← sector-next outerLayout innerLayout nest turn model host) (model-last-write turns (next outerLayout innerLayout turn model) host)
 
   pub model-reads-left : (before : List Turn) (call : Turn) (model : Model) → call .call .kind ≡ reads
       → reply outerLayout innerLayout call (final outerLayout innerLayout before model) .answer ≡ 0

@@ -7,17 +7,17 @@ use mathlib.Core.List.{List}
 use lib.Dec.{eqb}
 use lib.ListN.{length}
 use Rattle.layout.specs.declared.Layout.{Layout}
-use Rattle.view.specs.Views.{protectedOf, protectedView}
-use Rattle.view.specs.declared.Viewed.the-variants.{Made}
-use Rattle.guarantees.specs.ReferenceModel.{Kind, reads, writes, Turn, Model, sectorAt, lay, hostsOf, judged, imageAfter, next}
+use Rattle.guarantees.specs.ReferenceModel.{Turn, Model, hostsOf, judged, next}
+use Rattle.guarantees.specs.Table.{Kind, reads, writes, sectorAt, lay, imageAfter}
 use Rattle.guarantees.specs.Interleaving.{pieceFor, writtenBy}
+use Rattle.guarantees.proofs.NestLaws.{Nest}
 use Rattle.guarantees.proofs.TestCases.{eqb-cases}
 use Rattle.guarantees.proofs.LayLaws.{length-lay, sector-lay}
 use Rattle.guarantees.proofs.AcceptedLaws.{accepted, firstHost, hosts-consecutive, hosts-inside}
 
 module _ (outerLayout innerLayout : Layout) where
   length-image-after : (kind : Kind) (answer : ℕ) (hosts buffer image : List ℕ) → (answer ≡ 0 → length (lay hosts buffer image) ≡ length image)
-      → length (cond (eqb answer 0) (imageAfter outerLayout innerLayout kind hosts buffer image) image) ≡ length image
+      → length (cond (eqb answer 0) (imageAfter kind hosts buffer image) image) ≡ length image
   unfolding imageAfter
   length-image-after reads answer hosts buffer image f =
       eqb-cases (λ b. length (cond b image image) ≡ length image) answer 0 (λ e. refl) (λ e. refl)
@@ -26,7 +26,7 @@ module _ (outerLayout innerLayout : Layout) where
 
   sector-image-after : (kind : Kind) (answer host : ℕ) (hosts buffer image : List ℕ)
       → (answer ≡ 0 → sectorAt host (lay hosts buffer image) ≡ pieceFor host hosts buffer (sectorAt host image))
-      → sectorAt host (cond (eqb answer 0) (imageAfter outerLayout innerLayout kind hosts buffer image) image)
+      → sectorAt host (cond (eqb answer 0) (imageAfter kind hosts buffer image) image)
       ≡ writtenBy outerLayout innerLayout host kind hosts buffer answer (sectorAt host image)
   unfolding imageAfter writtenBy
   sector-image-after reads answer host hosts buffer image f =
@@ -36,7 +36,7 @@ module _ (outerLayout innerLayout : Layout) where
       (λ b. sectorAt host (cond b (lay hosts buffer image) image) ≡ cond b (pieceFor host hosts buffer (sectorAt host image)) (sectorAt host image))
       answer 0 f (λ e. refl)
 
-  module _ (made : protectedView outerLayout innerLayout ≡ Made (protectedOf outerLayout innerLayout false)) (turn : Turn) (model : Model) where
+  module _ (nest : Nest outerLayout innerLayout) (turn : Turn) (model : Model) where
     pub length-next : length (next outerLayout innerLayout turn model .image) ≡ length (model .image)
     unfolding next
     length-next =
@@ -44,9 +44,9 @@ module _ (outerLayout innerLayout : Layout) where
         (model .image)
         (λ e.
         let kept = accepted outerLayout innerLayout turn model e in
-        rw (hosts-consecutive outerLayout innerLayout made turn model kept)
+        rw (hosts-consecutive outerLayout innerLayout nest turn model kept)
         (length-lay (firstHost outerLayout innerLayout turn) (turn .call .count) (turn .call .buffer) (model .image) (kept .whole)
-        (hosts-inside outerLayout innerLayout made turn model kept)))
+        (hosts-inside outerLayout innerLayout nest turn model kept)))
 
     pub sector-next : (host : ℕ) → sectorAt host (next outerLayout innerLayout turn model .image)
         ≡ writtenBy outerLayout innerLayout host (turn .call .kind) (hostsOf outerLayout innerLayout turn) (turn .call .buffer)
@@ -57,6 +57,6 @@ module _ (outerLayout innerLayout : Layout) where
         (turn .call .buffer) (model .image)
         (λ e.
         let kept = accepted outerLayout innerLayout turn model e in
-        rw (hosts-consecutive outerLayout innerLayout made turn model kept)
+        rw (hosts-consecutive outerLayout innerLayout nest turn model kept)
         (sector-lay host (firstHost outerLayout innerLayout turn) (turn .call .count) (turn .call .buffer) (model .image) (kept .whole)
-        (hosts-inside outerLayout innerLayout made turn model kept)))
+        (hosts-inside outerLayout innerLayout nest turn model kept)))

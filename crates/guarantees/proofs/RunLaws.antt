@@ -5,11 +5,9 @@ use mathlib.Core.Path.{_≡_, refl, ap, ap₂}
 use mathlib.Core.Bool.{Bool, false}
 use mathlib.Core.List.{List, [], _∷_}
 use Rattle.layout.specs.declared.Layout.{Layout}
-use Rattle.view.specs.Views.{protectedOf, protectedView}
-use Rattle.view.specs.declared.Viewed.the-variants.{Made}
 use Rattle.guarantees.specs.Interleaving.{State, Run, done, step, start, modelStart, Agrees}
 use Rattle.guarantees.specs.ReferenceModel.{Turn, Reply, Model, next, final, replies}
-use Rattle.guarantees.proofs.NestLaws.{Nest, made-nests}
+use Rattle.guarantees.proofs.NestLaws.{Nest}
 use Rattle.guarantees.proofs.StateLaws.{stateOf}
 use Rattle.guarantees.proofs.StepLaws.{step-agrees, step-exists}
 
@@ -38,12 +36,12 @@ module _ (outerLayout innerLayout : Layout) where
     unfolding start modelStart stateOf
     start-state-of = refl
 
-    pub run-agrees : protectedView outerLayout innerLayout ≡ Made (protectedOf outerLayout innerLayout false)
+    pub run-agrees : Nest outerLayout innerLayout
         → (turns : List Turn) (answers : List Reply) (last : State) → Run (start outerLayout innerLayout outerLocked hiddenLocked image) turns answers last
         → Agrees outerLayout innerLayout outerLocked hiddenLocked image turns answers last
     unfolding stateOf
-    run-agrees made turns answers last run =
-        let agrees = run-agrees-from (made-nests outerLayout innerLayout made) run (modelStart outerLayout innerLayout outerLocked hiddenLocked image) start-state-of in
+    run-agrees nest turns answers last run =
+        let agrees = run-agrees-from nest run (modelStart outerLayout innerLayout outerLocked hiddenLocked image) start-state-of in
         record {
           sameReplies = agrees .0;
           sameImage = ap (λ state. state .image) (agrees .1);

@@ -10,13 +10,13 @@ use lib.ListN.{length}
 use borrow.Author.Tests.{not-true}
 use Rattle.layout.specs.declared.Layout.{Layout}
 use Rattle.sector_map.specs.SectorMap.{firstSector, sectors}
-use Rattle.view.specs.Views.{protectedOf, protectedView}
-use Rattle.view.specs.declared.Viewed.the-variants.{Made}
-use Rattle.guarantees.specs.ReferenceModel.{Side, outer, hidden, Kind, reads, writes, Call, Model, lockOf, isProtected, anyProtected, sectorAt, layoutOf, hostsOf, touched, judged, lockAfter, next}
+use Rattle.guarantees.specs.ReferenceModel.{Side, outer, hidden, Call, Model, lockOf, isProtected, anyProtected, layoutOf, hostsOf, touched, judged, lockAfter, next}
+use Rattle.guarantees.specs.Table.{Kind, reads, writes, tabled, sectorAt}
 use Rattle.guarantees.specs.Interleaving.{turn, pieceFor, writtenBy}
+use Rattle.guarantees.proofs.NestLaws.{Nest}
 use Rattle.guarantees.proofs.LayLaws.{piece-outside}
 use Rattle.guarantees.proofs.TestCases.{eqb-cases}
-use Rattle.guarantees.proofs.AcceptedLaws.{accepted, later-untouched, firstHost, made-sound, hosts-consecutive}
+use Rattle.guarantees.proofs.AcceptedLaws.{accepted, later-untouched, firstHost, nest-sound, hosts-consecutive}
 use Rattle.guarantees.proofs.NextLaws.{length-next, sector-next}
 use Rattle.guarantees.proofs.ProtectedLaws.{piece-unprotected, unprotected-outside}
 
@@ -48,7 +48,7 @@ same-trans s t =
 module _ (outerLayout innerLayout : Layout) where
   pub judged-same : (side : Side) (call : Call) (model other : Model) → Same innerLayout side model other
       → judged outerLayout innerLayout (turn side call) model ≡ judged outerLayout innerLayout (turn side call) other
-  unfolding judged
+  unfolding judged tabled
   judged-same side call model other s = rw (s .sameLock, s .sameLength)
 
   lock-next : (side : Side) (call : Call) (model : Model)
@@ -66,19 +66,19 @@ module _ (outerLayout innerLayout : Layout) where
   written-kept host writes hosts buffer answer before f =
       eqb-cases (λ b. cond b (pieceFor host hosts buffer before) before ≡ before) answer 0 (f refl) (λ e. refl)
 
-  module _ (made : protectedView outerLayout innerLayout ≡ Made (protectedOf outerLayout innerLayout false)) where
+  module _ (nest : Nest outerLayout innerLayout) where
     pub next-same : (side : Side) (call : Call) (model other : Model) → Same innerLayout side model other
         → Same innerLayout side (next outerLayout innerLayout (turn side call) model) (next outerLayout innerLayout (turn side call) other)
     next-same side call model other s =
         let answer = judged-same side call model other s in
-        let length-model = length-next outerLayout innerLayout made (turn side call) model in
-        let length-other = length-next outerLayout innerLayout made (turn side call) other in
+        let length-model = length-next outerLayout innerLayout nest (turn side call) model in
+        let length-other = length-next outerLayout innerLayout nest (turn side call) other in
         record {
           sameLock = lock-next side call model ∙ rw (answer, s .sameLock) (sym (lock-next side call other));
           sameLength = length-model ∙ s .sameLength ∙ sym length-other;
           sameSector = λ host h.
-              sector-next outerLayout innerLayout made (turn side call) model host
-              ∙ rw (answer, s .sameSector host h) (sym (sector-next outerLayout innerLayout made (turn side call) other host));
+              sector-next outerLayout innerLayout nest (turn side call) model host
+              ∙ rw (answer, s .sameSector host h) (sym (sector-next outerLayout innerLayout nest (turn side call) other host));
         }
 
     pub next-outer-same : (call : Call) (model : Model) → Same innerLayout hidden (next outerLayout innerLayout (turn outer call) model) model
@@ -86,9 +86,9 @@ module _ (outerLayout innerLayout : Layout) where
     next-outer-same call model =
         record {
           sameLock = refl;
-          sameLength = length-next outerLayout innerLayout made (turn outer call) model;
+          sameLength = length-next outerLayout innerLayout nest (turn outer call) model;
           sameSector = λ host h.
-              sector-next outerLayout innerLayout made (turn outer call) model host
+              sector-next outerLayout innerLayout nest (turn outer call) model host
               ∙ written-kept host (call .kind) (hostsOf outerLayout innerLayout (turn outer call)) (call .buffer)
               (judged outerLayout innerLayout (turn outer call) model) (sectorAt host (model .image))
               (λ kind answer.
@@ -102,16 +102,16 @@ module _ (outerLayout innerLayout : Layout) where
     next-hidden-same call model =
         record {
           sameLock = refl;
-          sameLength = length-next outerLayout innerLayout made (turn hidden call) model;
+          sameLength = length-next outerLayout innerLayout nest (turn hidden call) model;
           sameSector = λ host h.
-              sector-next outerLayout innerLayout made (turn hidden call) model host
+              sector-next outerLayout innerLayout nest (turn hidden call) model host
               ∙ written-kept host (call .kind) (hostsOf outerLayout innerLayout (turn hidden call)) (call .buffer)
               (judged outerLayout innerLayout (turn hidden call) model) (sectorAt host (model .image))
               (λ kind answer.
               let kept = accepted outerLayout innerLayout (turn hidden call) model answer in
               let inside : call .first + call .count ≤ sectors innerLayout = kept .inside in
-              let outside = unprotected-outside innerLayout (made-sound outerLayout innerLayout made hidden) host (not-true (isProtected innerLayout host) h) in
-              rw (hosts-consecutive outerLayout innerLayout made (turn hidden call) model kept)
+              let outside = unprotected-outside innerLayout (nest-sound outerLayout innerLayout nest hidden) host (not-true (isProtected innerLayout host) h) in
+              rw (hosts-consecutive outerLayout innerLayout nest (turn hidden call) model kept)
               (piece-outside host (firstSector innerLayout + call .first) (call .count) (call .buffer) (sectorAt host (model .image))
               (λ k. omega (arith, outside (omega arith)))));
         }

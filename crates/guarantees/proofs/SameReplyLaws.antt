@@ -8,12 +8,12 @@ use mathlib.Core.List.{List, [], _∷_}
 use lib.Dec.{eqb}
 use Rattle.layout.specs.declared.Layout.{Layout}
 use Rattle.sector_map.specs.SectorMap.{firstSector, sectors}
-use Rattle.view.specs.Views.{protectedOf, protectedView}
-use Rattle.view.specs.declared.Viewed.the-variants.{Made}
-use Rattle.guarantees.specs.ReferenceModel.{outer, hidden, Kind, reads, writes, Call, Model, sectorAt, gather, layoutOf, hostsOf, judged, bufferAfter, reply}
+use Rattle.guarantees.specs.ReferenceModel.{outer, hidden, Call, Model, layoutOf, hostsOf, judged, reply}
+use Rattle.guarantees.specs.Table.{Kind, reads, writes, sectorAt, gather, bufferAfter}
 use Rattle.guarantees.specs.Interleaving.{turn, unprotectedPieces, shownPieces}
+use Rattle.guarantees.proofs.NestLaws.{Nest}
 use Rattle.guarantees.proofs.TestCases.{eqb-cases}
-use Rattle.guarantees.proofs.AcceptedLaws.{accepted, firstHost, made-sound, hosts-consecutive, hosts-inside}
+use Rattle.guarantees.proofs.AcceptedLaws.{accepted, firstHost, nest-sound, hosts-consecutive, hosts-inside}
 use Rattle.guarantees.proofs.GatherLaws.{gather-same, pieces-same}
 use Rattle.guarantees.proofs.ProtectedLaws.{protected-inside}
 use Rattle.guarantees.proofs.SameLaws.{mayWrite, Same, judged-same}
@@ -21,7 +21,7 @@ use Rattle.guarantees.proofs.SameLaws.{mayWrite, Same, judged-same}
 module _ (outerLayout innerLayout : Layout) where
   -- the buffer of an answered call
   answeredBuffer : ℕ → Kind → List ℕ → List ℕ → List ℕ → List ℕ
-  answeredBuffer answer kind hosts buffer image = cond (eqb answer 0) (bufferAfter outerLayout innerLayout kind hosts buffer image) buffer
+  answeredBuffer answer kind hosts buffer image = cond (eqb answer 0) (bufferAfter kind hosts buffer image) buffer
 
   buffer-same : (answer : ℕ) (kind : Kind) (hosts buffer image other : List ℕ)
       → (answer ≡ 0 → gather (λ host. sectorAt host image) hosts ≡ gather (λ host. sectorAt host other) hosts)
@@ -49,7 +49,7 @@ module _ (outerLayout innerLayout : Layout) where
       answer 0 f (λ e. refl)
   shown-pieces-same answer writes hosts buffer image other f = refl
 
-  module _ (made : protectedView outerLayout innerLayout ≡ Made (protectedOf outerLayout innerLayout false)) (call : Call) (model other : Model) where
+  module _ (nest : Nest outerLayout innerLayout) (call : Call) (model other : Model) where
     pub reply-hidden-same : Same innerLayout hidden model other
         → reply outerLayout innerLayout (turn hidden call) model ≡ reply outerLayout innerLayout (turn hidden call) other
     unfolding reply answeredBuffer mayWrite firstHost layoutOf
@@ -61,12 +61,12 @@ module _ (outerLayout innerLayout : Layout) where
         (λ e.
         let kept = accepted outerLayout innerLayout (turn hidden call) model e in
         let inside : call .first + call .count ≤ sectors innerLayout = kept .inside in
-        rw (hosts-consecutive outerLayout innerLayout made (turn hidden call) model kept)
+        rw (hosts-consecutive outerLayout innerLayout nest (turn hidden call) model kept)
         (gather-same (λ host. sectorAt host (model .image)) (λ host. sectorAt host (other .image)) (firstSector innerLayout + call .first)
         (call .count)
         (λ host h k.
         s .sameSector host
-        (protected-inside innerLayout (made-sound outerLayout innerLayout made hidden) host (omega arith) (omega arith))))) in
+        (protected-inside innerLayout (nest-sound outerLayout innerLayout nest hidden) host (omega arith) (omega arith))))) in
         λ i. record {
           answer = answer i;
           buffer =
@@ -85,8 +85,8 @@ module _ (outerLayout innerLayout : Layout) where
         shown-pieces-same (judged outerLayout innerLayout (turn outer call) model) (call .kind) hosts (call .buffer) (model .image) (other .image)
         (λ e.
         let kept = accepted outerLayout innerLayout (turn outer call) model e in
-        rw (hosts-consecutive outerLayout innerLayout made (turn outer call) model kept)
+        rw (hosts-consecutive outerLayout innerLayout nest (turn outer call) model kept)
         (pieces-same outerLayout innerLayout (model .image) (other .image) (s .sameLength)
         (λ host h. s .sameSector host (ap not h)) (firstHost outerLayout innerLayout (turn outer call)) (call .count)
-        (hosts-inside outerLayout innerLayout made (turn outer call) model kept)))
+        (hosts-inside outerLayout innerLayout nest (turn outer call) model kept)))
         ∙ ap (λ a. shownPieces outerLayout innerLayout (call .kind) a hosts (answeredBuffer a (call .kind) hosts (call .buffer) (other .image))) answer

@@ -12,7 +12,7 @@ use Rattle.layout.specs.declared.Opened.{Opened}
 use Rattle.layout.specs.declared.Opened.the-variants.{Accepted, Refused}
 use Rattle.opening.specs.Opening.{judgements, firstRefusal, searchFrom}
 use Rattle.guarantees.specs.Header.{IsHeader, Line, number}
-use Rattle.guarantees.specs.Opening.{Codes, candidate, kindOf, IsAccepted, FirstAccepted, FirstHeader, Tells, Allowed}
+use Rattle.guarantees.specs.Opening.{Codes, candidate, kindOf, IsAccepted, FirstAccepted, FirstHeader, TellsAt, Allowed}
 use Rattle.guarantees.proofs.Reflects.{below-suc}
 use Rattle.guarantees.proofs.JudgementLaws.{number-bounds, Judgement, accepts, refuses, refuses4}
 use Rattle.guarantees.proofs.CandidateLaws.{judge-at-says, layout-tells}
@@ -20,7 +20,7 @@ use Rattle.guarantees.proofs.CandidateLaws.{judge-at-says, layout-tells
 module _ (candidates codes : List ℕ) (hostSize : ℕ) where
   -- what the search gives
   pub data Found : Opened → Type 0 where
-    anAccepted : (i : ℕ) (layout : Layout) → FirstAccepted candidates codes hostSize i → Tells candidates codes hostSize i layout → Found (Accepted layout)
+    anAccepted : (i : ℕ) (layout : Layout) → FirstAccepted candidates codes hostSize i → TellsAt candidates codes hostSize i layout → Found (Accepted layout)
     aHeader : ((i : ℕ) → IsAccepted candidates codes hostSize i → ⊥) → (i : ℕ) (line : Line) → FirstHeader candidates codes hostSize i line
         → Found (Refused (number line))
     noHeader : ((i : ℕ) → IsAccepted candidates codes hostSize i → ⊥) → ((i : ℕ) → i < length codes → IsHeader (candidate candidates i) → ⊥)
@@ -52,7 +52,7 @@ module _ (candidates codes : List ℕ) (hostSize : ℕ) where
       → ((n : ℕ) → NoneAccepted (suc k) → SoFar (suc k) n → Found (searchFrom n later)) → Found (searchFrom soFar (o ∷ later))
   unfolding searchFrom
   search-cons-says k later h f s (accepts r keeps) next =
-      anAccepted k _ (record { accepted = record { inside = h; isHeader = r; keeps = keeps }; first = f }) (layout-tells candidates codes hostSize k)
+      anAccepted k _ (record { accepted = record { inside = h; isHeader = r; keeps = keeps }; first = f }) (layout-tells (kindOf (getD codes k 0)) hostSize k (candidate candidates k))
   search-cons-says k later h f s (refuses r line breaks) next =
       next _ (below-suc _ k f (λ a. breaks .broken (a .keeps line)))
       (first-refusal-says k (number line) s (λ g. headerBefore k line (record { inside = h; isHeader = r; first = g; breaks = breaks })))

@@ -8,7 +8,7 @@ use lib.Dec.{ltb}
 use lib.ListN.{length, take, drop, getD, length-append, length-take, length-drop, take-append-drop}
 use lib.Seq.{take-append-le, drop-append-le, drop-append-add, take-at, drop-at, getD-take, getD-drop, ext-getD}
 use borrow.Author.Tests.{ltb-true, ltb-false}
-use Rattle.guarantees.specs.ReferenceModel.{sectorAt, setSector}
+use Rattle.guarantees.specs.Table.{sectorAt, setSector}
 use Rattle.guarantees.proofs.TestCases.{test-cases}
 
 -- of two lists end to end, a sector that lies whole in the first

@@ -9,7 +9,7 @@ use Rattle.layout.specs.declared.Layout.{Layout}
 use Rattle.sector_map.specs.SectorMap.{sectors, sectorCount, hostSector, userSector, tweakNumber, blockOf, tweakOf}
 use Rattle.sector_map.specs.declared.Mapped.the-variants.{Number}
 use Rattle.guarantees.specs.Header.{dataArea, Keeps}
-use Rattle.guarantees.specs.Opening.{HostSize, IsAccepted, Tells}
+use Rattle.guarantees.specs.Opening.{HostSize, IsAccepted, TellsAt}
 use Rattle.guarantees.specs.SectorMap.{Sound, MapsSectors, RefusesUnsound, MapsExactly, OpenedIsSound}
 use Rattle.guarantees.proofs.Reflects.{is-true, is-false}
 use Rattle.guarantees.proofs.CandidateLaws.{kind-of-says}
@@ -55,7 +55,7 @@ maps-exactly layout = record { sound = maps-sectors layout; unsound = refuses-un
 
 -- the layout of an accepted candidate
 accepted-sound : (candidates codes : List ℕ) (hostSize i : ℕ) (layout : Layout) → HostSize hostSize → IsAccepted candidates codes hostSize i
-    → Tells candidates codes hostSize i layout → Sound layout
+    → TellsAt candidates codes hostSize i layout → Sound layout
 unfolding Keeps
 accepted-sound candidates codes hostSize i layout size accepted told =
     let area = accepted .keeps dataArea in

@@ -8,14 +8,14 @@ use Rattle.layout.specs.Rules.{dataAreaRule}
 use Rattle.layout.specs.Soundness.{sound}
 use Rattle.layout.specs.declared.Layout.{Layout}
 use Rattle.header.specs.Header.{areaRule}
-use Rattle.guarantees.specs.Header.{DataArea}
+use Rattle.guarantees.specs.Header.{KnownKind, DataArea}
 use Rattle.guarantees.specs.SectorMap.{Sound}
 use Rattle.guarantees.proofs.Reflects.{Reflects, is-true, reflects-map, reflects-and, reflects-eqb}
 use Rattle.guarantees.proofs.RuleLaws.{host-size-reflects}
-use Rattle.guarantees.proofs.LineLaws.{Kind, area-reflects}
+use Rattle.guarantees.proofs.LineLaws.{area-reflects}
 
 -- the last header line, with E taken as V
-data-area-rule-reflects : (kind hostSize start size : ℕ) → Reflects (Kind kind × DataArea kind hostSize start size size) (dataAreaRule kind hostSize start size)
+pub data-area-rule-reflects : (kind hostSize start size : ℕ) → Reflects (KnownKind kind × DataArea kind hostSize start size size) (dataAreaRule kind hostSize start size)
 unfolding areaRule
 data-area-rule-reflects kind hostSize start size = rw (is-true (reflects-eqb size size) refl) at (area-reflects kind hostSize start size size)
 

@@ -7,25 +7,26 @@ use mathlib.Core.List.{List}
 use lib.Dec.{eqb}
 use Rattle.layout.specs.declared.Layout.{Layout}
 use Rattle.view.specs.Access.{after}
-use Rattle.view.specs.Views.{soundView, plainOf, protectedOf}
+use Rattle.view.specs.Views.{soundView}
 use Rattle.view.specs.declared.View.{View}
 use Rattle.guarantees.specs.Interleaving.{State, put, viewOf}
 use Rattle.guarantees.specs.ReferenceModel.{Side, outer, hidden, Model, lockOf, layoutOf, lockAfter}
 use Rattle.guarantees.specs.SectorMap.{Sound}
+use Rattle.guarantees.specs.Views.{plain, protecting}
 use Rattle.guarantees.proofs.NestLaws.{Nest, sound-view-plain, sound-view-protected}
 
 module _ (outerLayout innerLayout : Layout) where
   -- the view of a side, with its lock
   unfoldable pub viewFor : Side → Bool → View
-  viewFor outer locked = protectedOf outerLayout innerLayout locked
-  viewFor hidden locked = plainOf innerLayout locked
+  viewFor outer locked = protecting outerLayout innerLayout locked
+  viewFor hidden locked = plain innerLayout locked
 
   -- the state of a model
   unfoldable pub stateOf : Model → State
   stateOf model =
       record {
-        outerView = protectedOf outerLayout innerLayout (model .outerLocked);
-        hiddenView = plainOf innerLayout (model .hiddenLocked);
+        outerView = protecting outerLayout innerLayout (model .outerLocked);
+        hiddenView = plain innerLayout (model .hiddenLocked);
         image = model .image;
       }
 
@@ -35,12 +36,12 @@ module _ (outerLayout innerLayout : Layout) where
   view-of-state-of hidden model = refl
 
   pub layout-view-for : (side : Side) (locked : Bool) → viewFor side locked .layout ≡ layoutOf outerLayout innerLayout side
-  unfolding viewFor layoutOf protectedOf plainOf
+  unfolding viewFor layoutOf
   layout-view-for outer locked = refl
   layout-view-for hidden locked = refl
 
   pub after-view-for : (side : Side) (locked : Bool) (number : ℕ) → after (viewFor side locked) number ≡ viewFor side (cond (eqb number 18) true locked)
-  unfolding after viewFor protectedOf plainOf
+  unfolding after viewFor
   after-view-for outer locked number = refl
   after-view-for hidden locked number = refl
 
@@ -49,8 +50,8 @@ module _ (outerLayout innerLayout : Layout) where
       ≡ stateOf
       (record {
         image = image;
-        outerLocked = lockAfter outerLayout innerLayout outer side number (model .outerLocked);
-        hiddenLocked = lockAfter outerLayout innerLayout hidden side number (model .hiddenLocked);
+        outerLocked = lockAfter outer side number (model .outerLocked);
+        hiddenLocked = lockAfter hidden side number (model .hiddenLocked);
       })
   unfolding put stateOf viewFor lockOf lockAfter
   put-state-of outer number image model = refl

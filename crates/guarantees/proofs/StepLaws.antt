@@ -6,26 +6,21 @@ use mathlib.Core.Bool.{Bool, true, false, cond}
 use mathlib.Core.List.{List}
 use lib.Dec.{eqb}
 use lib.ListN.{length}
-use borrow.Author.Tests.{eqb-true}
 use Rattle.layout.specs.declared.Layout.{Layout}
 use Rattle.view.specs.Access.{ReadPost, WritePost, answered, answerNumber, after, readNumber, writeNumber}
 use Rattle.view.specs.declared.Outcome.{Outcome}
 use Rattle.view.specs.declared.View.{View}
 use Rattle.view.proofs.AccessLaws.{answer-number-answered}
 use Rattle.guarantees.specs.Interleaving.{State, put, turn, seen, Step, aRead, aWrite}
-use Rattle.guarantees.specs.ReferenceModel.{Side, Kind, reads, writes, Turn, Reply, Model, lockOf, layoutOf, hostsOf}
-use Rattle.guarantees.specs.ReferenceModel.{bufferAfter, imageAfter, reply, next}
+use Rattle.guarantees.specs.ReferenceModel.{Side, Turn, Reply, Model, lockOf, layoutOf, hostsOf}
+use Rattle.guarantees.specs.Table.{Kind, reads, writes}
+use Rattle.guarantees.specs.ReferenceModel.{reply, next}
+use Rattle.guarantees.specs.Table.{bufferAfter, imageAfter}
 use Rattle.guarantees.proofs.CheckLaws.{numbered, judged-fits, judged-reads, read-number-judged, write-number-judged}
 use Rattle.guarantees.proofs.ExtentLaws.{gather-extent, lay-extent}
 use Rattle.guarantees.proofs.NestLaws.{Nest}
+use Rattle.guarantees.proofs.TestCases.{cond-zero}
 use Rattle.guarantees.proofs.StateLaws.{viewFor, stateOf, view-of-state-of, layout-view-for, after-view-for, put-state-of, sound-layout-of}
-
-cond-zero : (n : ℕ) (x y z : List ℕ) → (n ≡ 0 → x ≡ y) → cond (eqb n 0) x z ≡ cond (eqb n 0) y z
-cond-zero n x y z f = go (eqb n 0) refl
-  where
-    go : (b : Bool) → eqb n 0 ≡ b → cond b x z ≡ cond b y z
-    go true e = f (eqb-true n 0 e)
-    go false e = refl
 
 cond-same : (b : Bool) (x : List ℕ) → cond b x x ≡ x
 cond-same true x = refl

@@ -10,18 +10,19 @@ use Rattle.sector_map.specs.declared.Mapped.{Mapped}
 use Rattle.view.specs.Access.{extentStart, touches}
 use Rattle.view.specs.Views.{areaEnd}
 use Rattle.view.specs.declared.Protection.the-variants.{Protected}
-use Rattle.guarantees.specs.ReferenceModel.{covers, isNumber, isProtected, anyProtected}
+use Rattle.guarantees.specs.ReferenceModel.{isNumber, isProtected, anyProtected}
+use Rattle.guarantees.specs.Table.{covers}
 use Rattle.guarantees.specs.SectorMap.{Sound, InArea}
 use Rattle.guarantees.proofs.CoversLaws.{consecutive}
 use Rattle.guarantees.proofs.ExtentLaws.{covers-extent}
 use Rattle.guarantees.proofs.MapLaws.{Answers, answersNumber, answers16, user-sector-answers}
 use Rattle.guarantees.proofs.Reflects.{Reflects, holds, fails, is-true, is-false, reflects-map, reflects-and, reflects-leb}
 
-reflects-same : {P : Type 0} {a b : Bool} → Reflects P a → Reflects P b → a ≡ b
+pub reflects-same : {P : Type 0} {a b : Bool} → Reflects P a → Reflects P b → a ≡ b
 reflects-same (holds p) r = sym (is-true r p)
 reflects-same (fails f) r = sym (is-false r f)
 
-is-number-reflects : {P : Type 0} {n : ℕ} {m : Mapped} → Answers P n m → Reflects P (isNumber m)
+pub is-number-reflects : {P : Type 0} {n : ℕ} {m : Mapped} → Answers P n m → Reflects P (isNumber m)
 unfolding isNumber
 is-number-reflects (answersNumber p) = holds p
 is-number-reflects (answers16 f) = fails f

@@ -1,25 +1,43 @@
--- The boundary for C and Rust: every layout and view comes back from its numbers, and 0 tells an acceptance and no refusal.
+-- The boundary for C and Rust: what each number returned tells, in which order a layout's and a view's numbers stand, and what is stored.
 -- The definitions are those that the contracts of `ondristela`, and of the calls below it, cite. Assumes nothing.
 use Prim.Native.Nat.{ℕ, _+_, _*_, _≤_}
 use mathlib.Core.Path.{_≡_}
 use mathlib.Core.Logic.{_↔_}
-use mathlib.Core.List.{List, [], _∷_}
-use lib.ListN.{length}
+use mathlib.Core.Bool.{Bool, not, cond}
+use mathlib.Core.List.{List, [], _∷_, _++_}
+use lib.Dec.{eqb}
+use lib.ListN.{length, take}
 use Rattle.layout.specs.Answer.{numberOf}
 use Rattle.layout.specs.declared.Layout.{Layout}
-use Rattle.layout.specs.declared.Opened.the-variants.{Accepted}
+use Rattle.layout.specs.declared.Opened.the-variants as opening
 use Rattle.opening.specs.Locations.{located, locatedNumber}
 use Rattle.opening.specs.Opening.{opened}
-use Rattle.opening.specs.declared.Located.the-variants.{At}
+use Rattle.opening.specs.declared.Located.the-variants as locating
 use Rattle.sector_map.specs.SectorMap.{hostSector, userSector, tweakOf, mappedRefusal}
-use Rattle.sector_map.specs.declared.Mapped.the-variants.{Number}
-use Rattle.view.specs.Access.{readNumber, writeNumber, after, ReadPost, WritePost}
+use Rattle.sector_map.specs.declared.Mapped.the-variants as mapping
+use Rattle.view.specs.Access.{readNumber, writeNumber, answerNumber, ReadPost, WritePost}
 use Rattle.view.specs.Views.{plainView, protectedView, viewedRefusal}
 use Rattle.view.specs.declared.Answer.the-variants as access
 use Rattle.view.specs.declared.Outcome.{Outcome}
+use Rattle.view.specs.declared.Protection.{Protection}
+use Rattle.view.specs.declared.Protection.the-variants.{Unprotected, Protected}
 use Rattle.view.specs.declared.View.{View}
-use Rattle.view.specs.declared.Viewed.the-variants.{Made}
-use Rattle.ondristela.specs.Boundary.{layoutNumbers, layoutOf, viewNumbers, viewOf, viewLeft, keysLeft}
+use Rattle.view.specs.declared.Viewed.the-variants as making
+use Rattle.ondristela.specs.Boundary.{layoutOf, viewOf}
+use Rattle.ondristela.specs.Boundary.{locatedLeft, openedLeft, keysLeft, mappedLeft, blockLeft, viewedLeft, viewLeft}
+
+-- every refusal is told by its own number, and every acceptance by 0
+pub record TellsNumbers : Type 0 where
+  pub openedAccepted : (layout : Layout) → numberOf (opening.Accepted layout) ≡ 0
+  pub openedRefused : (number : ℕ) → numberOf (opening.Refused number) ≡ number
+  pub locatedAccepted : (offset : ℕ) → locatedNumber (locating.At offset) ≡ 0
+  pub locatedRefused : (number : ℕ) → locatedNumber (locating.Refused number) ≡ number
+  pub mappedAccepted : (sector : ℕ) → mappedRefusal (mapping.Number sector) ≡ 0
+  pub mappedRefused : (number : ℕ) → mappedRefusal (mapping.Refused number) ≡ number
+  pub madeAccepted : (view : View) → viewedRefusal (making.Made view) ≡ 0
+  pub madeRefused : (number : ℕ) → viewedRefusal (making.Refused number) ≡ number
+  pub accessAccepted : answerNumber access.Accepted ≡ 0
+  pub accessRefused : (number : ℕ) → answerNumber (access.Refused number) ≡ number
 
 -- an answer's number is 0 exactly where the answer is an acceptance
 pub record ZeroAccepts {A R : Type 0} (number : R → ℕ) (accepted : A → R) (answer : R) : Type 0 where
@@ -28,37 +46,72 @@ pub record ZeroAccepts {A R : Type 0} (number : R → ℕ) (accepted : A → R) 
   -- every acceptance has the number 0
   pub each : (value : A) → answer ≡ accepted value → number answer ≡ 0
 
--- the claim
-pub record BoundaryFaithful : Type 0 where
-  -- a layout comes back from its eight numbers
-  pub layouts : (layout : Layout) → layoutOf (layoutNumbers layout) ≡ layout
-  -- a view comes back from its twelve numbers
-  pub views : (view : View) → viewOf (viewNumbers view) ≡ view
-  -- the numbers that a write leaves tell the view that the write below hands back (`WritePost`, field `back`)
-  pub locks : (number : ℕ) (numbers : List ℕ) → length numbers ≡ 12 → viewOf (viewLeft number numbers) ≡ after (viewOf numbers) number
-  -- 0 exactly where a header location is given
-  pub locates : (code hostSize : ℕ) → ZeroAccepts locatedNumber At (located code hostSize)
-  -- 0 exactly where a candidate is accepted, for its layout and for its key bytes
-  pub opens : (candidates codes : List ℕ) (hostSize : ℕ) → ZeroAccepts numberOf Accepted (opened candidates codes hostSize)
-  -- 0 exactly where the host sector of a user sector is given
-  pub hostSectors : (layout : Layout) (user : ℕ) → ZeroAccepts mappedRefusal Number (hostSector layout user)
-  -- 0 exactly where the user sector of a host sector is given
-  pub userSectors : (layout : Layout) (host : ℕ) → ZeroAccepts mappedRefusal Number (userSector layout host)
-  -- 0 exactly where the tweak of a user sector is given
-  pub tweaks : (layout : Layout) (user : ℕ) → ZeroAccepts mappedRefusal Number (tweakOf layout user .number)
-  -- 0 exactly where a plain view is made
-  pub plainViews : (layout : Layout) → ZeroAccepts viewedRefusal Made (plainView layout)
-  -- 0 exactly where a protected view is made
-  pub protectedViews : (outer inner : Layout) → ZeroAccepts viewedRefusal Made (protectedView outer inner)
-  -- 0 exactly where the read below is accepted
+-- no call is refused by 0, so 0 tells an acceptance and no refusal
+pub record ReturnsZero : Type 0 where
+  pub locates : (code hostSize : ℕ) → ZeroAccepts locatedNumber locating.At (located code hostSize)
+  pub opens : (candidates codes : List ℕ) (hostSize : ℕ) → ZeroAccepts numberOf opening.Accepted (opened candidates codes hostSize)
+  pub hostSectors : (layout : Layout) (user : ℕ) → ZeroAccepts mappedRefusal mapping.Number (hostSector layout user)
+  pub userSectors : (layout : Layout) (host : ℕ) → ZeroAccepts mappedRefusal mapping.Number (userSector layout host)
+  pub tweaks : (layout : Layout) (user : ℕ) → ZeroAccepts mappedRefusal mapping.Number (tweakOf layout user .number)
+  pub plainViews : (layout : Layout) → ZeroAccepts viewedRefusal making.Made (plainView layout)
+  pub protectedViews : (outer inner : Layout) → ZeroAccepts viewedRefusal making.Made (protectedView outer inner)
   pub reads : (view : View) (image : List ℕ) (first count : ℕ) (buffer filled : List ℕ) (outcome : Outcome)
       → ReadPost view image first count buffer outcome filled
       → (readNumber view (length image) first count (length buffer) ≡ 0) ↔ (outcome .answer ≡ access.Accepted)
-  -- 0 exactly where the write below is accepted
   pub writes : (view : View) (image : List ℕ) (first count : ℕ) (buffer written : List ℕ) (outcome : Outcome)
       → WritePost view image first count buffer outcome written
       → (writeNumber view (length image) first count (length buffer) ≡ 0) ↔ (outcome .answer ≡ access.Accepted)
-  -- where a candidate is accepted, the offset and the length of its key bytes are left, and these lie inside the candidates
-  pub keys : (candidates codes before : List ℕ) (hostSize : ℕ) (layout : Layout) → opened candidates codes hostSize ≡ Accepted layout
-      → (keysLeft (opened candidates codes hostSize) before ≡ (layout .candidate * 512 + 256) ∷ 256 ∷ [])
-      × (layout .candidate * 512 + 256 + 256 ≤ length candidates)
+
+-- the order of the numbers that are passed: struct ondristela_layout and struct ondristela_view
+pub record OrdersNumbers (host kind magic version program start size candidate protected first end lock : ℕ) : Type 0 where
+  pub layout : layoutOf (host ∷ kind ∷ magic ∷ version ∷ program ∷ start ∷ size ∷ candidate ∷ [])
+      ≡ record {
+        «host_size» = host;
+        kind = kind;
+        magic = magic;
+        version = version;
+        «min_program_version» = program;
+        «data_start» = start;
+        «data_size» = size;
+        candidate = candidate;
+      }
+  -- any number but 0 tells of a protected range, and of a closed lock
+  pub view : viewOf (host ∷ kind ∷ magic ∷ version ∷ program ∷ start ∷ size ∷ candidate ∷ protected ∷ first ∷ end ∷ lock ∷ [])
+      ≡ record {
+        layout = layoutOf (host ∷ kind ∷ magic ∷ version ∷ program ∷ start ∷ size ∷ candidate ∷ []);
+        protection = cond (eqb protected 0) Unprotected (Protected first end);
+        locked = not (eqb lock 0);
+      }
+
+-- the numbers of a layout, and of what a view protects, as they are stored
+abbrev pub storedLayout : Layout → List ℕ
+storedLayout layout =
+    layout .«host_size» ∷ layout .kind ∷ layout .magic ∷ layout .version ∷ layout .«min_program_version» ∷ layout .«data_start»
+    ∷ layout .«data_size» ∷ layout .candidate ∷ []
+
+abbrev pub storedProtection : Protection → List ℕ
+storedProtection Unprotected = 0 ∷ 0 ∷ 0 ∷ []
+storedProtection (Protected first end) = 1 ∷ first ∷ end ∷ []
+
+-- what each call stores: on an acceptance the answer's own numbers, on a refusal nothing, but that a write's 18 closes the view's lock
+pub record StoresAnswers (before : List ℕ) : Type 0 where
+  pub offset : (offset : ℕ) → locatedLeft (locating.At offset) before ≡ offset ∷ []
+  pub noOffset : (number : ℕ) → locatedLeft (locating.Refused number) before ≡ before
+  pub layout : (layout : Layout) → openedLeft (opening.Accepted layout) before ≡ storedLayout layout
+  pub noLayout : (number : ℕ) → openedLeft (opening.Refused number) before ≡ before
+  -- the offset and the length of the key bytes, which lie inside the candidates
+  pub keys : (layout : Layout) → keysLeft (opening.Accepted layout) before ≡ (layout .candidate * 512 + 256) ∷ 256 ∷ []
+  pub keysInside : (candidates codes : List ℕ) (hostSize : ℕ) (layout : Layout) → opened candidates codes hostSize ≡ opening.Accepted layout
+      → layout .candidate * 512 + 256 + 256 ≤ length candidates
+  pub noKeys : (number : ℕ) → keysLeft (opening.Refused number) before ≡ before
+  pub sector : (sector : ℕ) → mappedLeft (mapping.Number sector) before ≡ sector ∷ []
+  pub noSector : (number : ℕ) → mappedLeft (mapping.Refused number) before ≡ before
+  pub block : (sector : ℕ) (block : List ℕ) → blockLeft (mapping.Number sector) block before ≡ block
+  pub noBlock : (number : ℕ) (block : List ℕ) → blockLeft (mapping.Refused number) block before ≡ before
+  -- a view, and that the view comes back from its numbers
+  pub view : (view : View)
+      → viewedLeft (making.Made view) before ≡ storedLayout (view .layout) ++ storedProtection (view .protection) ++ cond (view .locked) 1 0 ∷ []
+  pub viewBack : (view : View) → viewOf (viewedLeft (making.Made view) before) ≡ view
+  pub noView : (number : ℕ) → viewedLeft (making.Refused number) before ≡ before
+  pub closes : length before ≡ 12 → viewLeft 18 before ≡ take 11 before ++ (1 ∷ [])
+  pub sameView : (number : ℕ) → (number ≡ 18 → ⊥) → viewLeft number before ≡ before

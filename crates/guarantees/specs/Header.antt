@@ -1,33 +1,54 @@
--- Document 01's "The 512 header bytes", as it states them: when a candidate is a header, and the six lines that an accepted one keeps.
--- Stated over the bytes and their fields alone, apart from any way of testing them. Assumes nothing.
+-- The 512 header bytes (RULES.md, "Header bytes"): when a candidate is a header, the six lines that an accepted one keeps, and what its
+-- layout tells. Stated over the bytes at their offsets, apart from the definitions that the contracts cite. Assumes nothing.
 use Prim.Native.Nat.{ℕ, _+_, _/_, _%_, _≤_, _<_}
 use mathlib.Core.Path.{_≡_}
 use mathlib.Core.Logic.{_⊎_}
-use mathlib.Core.List.{List}
-use lib.ListN.{length, getD}
-use Rattle.numbers.specs.Numbers.{bigEndian}
+use mathlib.Core.List.{List, [], _∷_}
+use lib.ListN.{length, getD, take, drop}
+use Rattle.numbers.specs.Numbers.{bigEndian, littleEndian}
 use Rattle.crc32.specs.Crc32.{crc32}
 use Rattle.layout.specs.Rules.{standard, hidden}
-use Rattle.header.specs.Bytes.{part}
-use Rattle.header.specs.Header.{veraMagic, trueMagic, fieldsOf}
+use Rattle.layout.specs.declared.Layout.{Layout}
+use Rattle.header.specs.declared.Fields.{Fields}
 
--- bytes 64 to 67 spell VERA
+-- so many bytes from an offset on
+abbrev pub bytesAt : ℕ → ℕ → List ℕ → List ℕ
+bytesAt offset size bytes = take size (drop offset bytes)
+
+-- the magic, bytes 64 to 67, in ASCII: VERA or TRUE
 unfoldable pub IsVera : List ℕ → Type 0
-IsVera h = part 64 4 h ≡ veraMagic
+IsVera h = bytesAt 64 4 h ≡ 0x56 ∷ 0x45 ∷ 0x52 ∷ 0x41 ∷ []
 
--- bytes 64 to 67 spell TRUE
 unfoldable pub IsTrue : List ℕ → Type 0
-IsTrue h = part 64 4 h ≡ trueMagic
+IsTrue h = bytesAt 64 4 h ≡ 0x54 ∷ 0x52 ∷ 0x55 ∷ 0x45 ∷ []
 
--- a candidate is a header: its magic, the checksum of its keys, and that of its fields
+-- the numbers, each at its offset with its size; the min program version alone is little-endian
+abbrev pub fieldsAt : List ℕ → Fields
+fieldsAt h =
+    record {
+      version = bigEndian (bytesAt 68 2 h);
+      «min_program_version» = littleEndian (bytesAt 70 2 h);
+      «hidden_size» = bigEndian (bytesAt 92 8 h);
+      «data_size» = bigEndian (bytesAt 100 8 h);
+      «data_start» = bigEndian (bytesAt 108 8 h);
+      «encrypted_size» = bigEndian (bytesAt 116 8 h);
+      flags = bigEndian (bytesAt 124 4 h);
+      «sector_size» = bigEndian (bytesAt 128 4 h);
+    }
+
+-- a candidate is a header: its magic, the checksum of its keys at 72, and that of its fields, from the magic on, at 252
 pub record IsHeader (h : List ℕ) : Type 0 where
   pub magic : IsVera h ⊎ IsTrue h
-  pub keys : crc32 (part 256 256 h) ≡ bigEndian (part 72 4 h)
-  pub fields : crc32 (part 64 188 h) ≡ bigEndian (part 252 4 h)
+  pub keys : crc32 (bytesAt 256 256 h) ≡ bigEndian (bytesAt 72 4 h)
+  pub fields : crc32 (bytesAt 64 188 h) ≡ bigEndian (bytesAt 252 4 h)
 
 -- every byte is zero
 unfoldable pub AllZero : List ℕ → Type 0
 AllZero bytes = (i : ℕ) → i < length bytes → getD bytes i 0 ≡ 0
+
+-- one of the two kinds
+abbrev pub KnownKind : ℕ → Type 0
+KnownKind kind = (kind ≡ standard) ⊎ (kind ≡ hidden)
 
 -- the six lines, in the order in which they are tested
 pub data Line : Type 0 where
@@ -42,7 +63,8 @@ number sectorSize = 8
 number hiddenSize = 9
 number dataArea = 10
 
--- the last line: V at least 512; V and O multiples of 512; E equal to V; O by the kind; O+V at most S-131,072, as whole numbers
+-- the last line: a data area of whole sectors and at least one, all of it encrypted, that starts where its kind may and leaves the backup
+-- headers free; the sums are of whole numbers
 pub record DataArea (kind hostSize start size encryptedSize : ℕ) : Type 0 where
   pub atLeast : 512 ≤ size
   pub sizeMultiple : size % 512 ≡ 0
@@ -55,18 +77,30 @@ pub record DataArea (kind hostSize start size encryptedSize : ℕ) : Type 0 wher
 -- what it is for a header to keep a line, for the kind of its location and a host size
 unfoldable pub Keeps : Line → ℕ → ℕ → List ℕ → Type 0
 Keeps version kind hostSize h =
-    (IsVera h → (2 ≤ fieldsOf h .version) × (fieldsOf h .version ≤ 5))
-    × (IsTrue h → (fieldsOf h .version ≡ 4) ⊎ (fieldsOf h .version ≡ 5))
-Keeps reserved kind hostSize h = (fieldsOf h .flags / 4 ≡ 0) × (IsVera h → AllZero (part 76 16 h) × AllZero (part 132 120 h))
-Keeps flags kind hostSize h = fieldsOf h .flags % 4 ≡ 0
-Keeps sectorSize kind hostSize h = fieldsOf h .«sector_size» ≡ 512
+    (IsVera h → (2 ≤ fieldsAt h .version) × (fieldsAt h .version ≤ 5))
+    × (IsTrue h → (fieldsAt h .version ≡ 4) ⊎ (fieldsAt h .version ≡ 5))
+Keeps reserved kind hostSize h = (fieldsAt h .flags / 4 ≡ 0) × (IsVera h → AllZero (bytesAt 76 16 h) × AllZero (bytesAt 132 120 h))
+Keeps flags kind hostSize h = fieldsAt h .flags % 4 ≡ 0
+Keeps sectorSize kind hostSize h = fieldsAt h .«sector_size» ≡ 512
 Keeps hiddenSize kind hostSize h =
-    (kind ≡ standard → fieldsOf h .«hidden_size» ≡ 0)
-    × (kind ≡ hidden → (fieldsOf h .«hidden_size» ≡ 0 → ⊥) × (fieldsOf h .«hidden_size» ≡ fieldsOf h .«data_size»))
+    (kind ≡ standard → fieldsAt h .«hidden_size» ≡ 0)
+    × (kind ≡ hidden → (fieldsAt h .«hidden_size» ≡ 0 → ⊥) × (fieldsAt h .«hidden_size» ≡ fieldsAt h .«data_size»))
 Keeps dataArea kind hostSize h =
-    DataArea kind hostSize (fieldsOf h .«data_start») (fieldsOf h .«data_size») (fieldsOf h .«encrypted_size»)
+    DataArea kind hostSize (fieldsAt h .«data_start») (fieldsAt h .«data_size») (fieldsAt h .«encrypted_size»)
 
 -- the first line that a header breaks: those before it are kept
 pub record FirstBroken (line : Line) (kind hostSize : ℕ) (h : List ℕ) : Type 0 where
   pub broken : Keeps line kind hostSize h → ⊥
   pub earlier : (other : Line) → number other < number line → Keeps other kind hostSize h
+
+-- what a layout tells of a header, field by field: for the kind of its location, a host size and the candidate's index
+pub record Tells (kind hostSize index : ℕ) (h : List ℕ) (layout : Layout) : Type 0 where
+  pub hostSizeTold : layout .«host_size» ≡ hostSize
+  pub kindTold : layout .kind ≡ kind
+  pub veraTold : IsVera h → layout .magic ≡ 0
+  pub trueTold : IsTrue h → layout .magic ≡ 1
+  pub versionTold : layout .version ≡ fieldsAt h .version
+  pub minProgramVersionTold : layout .«min_program_version» ≡ fieldsAt h .«min_program_version»
+  pub startTold : layout .«data_start» ≡ fieldsAt h .«data_start»
+  pub sizeTold : layout .«data_size» ≡ fieldsAt h .«data_size»
+  pub candidateTold : layout .candidate ≡ index

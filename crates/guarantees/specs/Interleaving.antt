@@ -8,11 +8,12 @@ use lib.Dec.{eqb}
 use lib.ListN.{take, drop}
 use Rattle.layout.specs.declared.Layout.{Layout}
 use Rattle.view.specs.Access.{ReadPost, WritePost, answerNumber}
-use Rattle.view.specs.Views.{plainOf, protectedOf, protectedView}
 use Rattle.view.specs.declared.Outcome.{Outcome}
 use Rattle.view.specs.declared.View.{View}
-use Rattle.view.specs.declared.Viewed.the-variants.{Made}
-use Rattle.guarantees.specs.ReferenceModel.{Side, outer, hidden, Kind, reads, writes, Call, Turn, Reply, Model, isProtected, sectorAt, gather, hostsOf, final, replies}
+use Rattle.guarantees.specs.ReferenceModel.{Side, outer, hidden, Call, Turn, Reply, Model, isProtected, hostsOf, final, replies}
+use Rattle.guarantees.specs.SectorMap.{Sound}
+use Rattle.guarantees.specs.Views.{plain, protecting, Nested}
+use Rattle.guarantees.specs.Table.{Kind, reads, writes, sectorAt, gather}
 
 -- a call on a view
 abbrev pub turn : Side → Call → Turn
@@ -120,7 +121,7 @@ module _ (outerLayout innerLayout : Layout) where
   module _ (outerLocked hiddenLocked : Bool) (image : List ℕ) where
     -- the start: the protected view made from the two layouts, the plain one of the hidden layout, each lock open or closed
     unfoldable pub start : State
-    start = record { outerView = protectedOf outerLayout innerLayout outerLocked; hiddenView = plainOf innerLayout hiddenLocked; image = image }
+    start = record { outerView = protecting outerLayout innerLayout outerLocked; hiddenView = plain innerLayout hiddenLocked; image = image }
 
     -- the reference model's start
     unfoldable pub modelStart : Model
@@ -130,8 +131,8 @@ module _ (outerLayout innerLayout : Layout) where
     pub record Agrees (turns : List Turn) (answers : List Reply) (last : State) : Type 0 where
       pub sameReplies : answers ≡ replies outerLayout innerLayout turns modelStart
       pub sameImage : last .image ≡ final outerLayout innerLayout turns modelStart .image
-      pub sameOuter : last .outerView ≡ protectedOf outerLayout innerLayout (final outerLayout innerLayout turns modelStart .outerLocked)
-      pub sameHidden : last .hiddenView ≡ plainOf innerLayout (final outerLayout innerLayout turns modelStart .hiddenLocked)
+      pub sameOuter : last .outerView ≡ protecting outerLayout innerLayout (final outerLayout innerLayout turns modelStart .outerLocked)
+      pub sameHidden : last .hiddenView ≡ plain innerLayout (final outerLayout innerLayout turns modelStart .hiddenLocked)
 
     -- two runs agree, but for what outer reads give of protected sectors
     pub record Independent (xs : List Call) (turns others : List Turn) (answers otherAnswers : List Reply) (last otherLast : State) : Type 0 where
@@ -159,8 +160,8 @@ module _ (outerLayout innerLayout : Layout) where
           → Interleaves xs ys turns → Interleaves xs ys others → Run start turns answers last → Run start others otherAnswers otherLast
           → Independent xs turns others answers otherAnswers last otherLast
 
--- demand 3: for two layouts from which a protected view is made
+-- demand 3: for any two sound layouts that nest
 pub record Demand3 (outerLayout innerLayout : Layout) : Type 0 where
-  pub holds : protectedView outerLayout innerLayout ≡ Made (protectedOf outerLayout innerLayout false)
+  pub holds : Sound outerLayout → Sound innerLayout → Nested outerLayout innerLayout
       → (outerLocked hiddenLocked : Bool) (image : List ℕ) (xs ys : List Call)
       → Interleaved outerLayout innerLayout outerLocked hiddenLocked image xs ys

@@ -1,8 +1,15 @@
+pub mod Access
 pub mod Boundary
+pub mod BoundaryRuns
+pub mod Claims
+pub mod FromHeaders
 pub mod Header
 pub mod Interleaving
+pub mod Judging
+pub mod Numbers
 pub mod Opening
 pub mod ReferenceModel
 pub mod SectorMap
+pub mod Table
 pub mod Views
 pub mod WorkedCases

@@ -1,4 +1,4 @@
--- Demand 2, first half: a volume opens exactly when some candidate header meets the published rules and its layout fits the host.
+-- Demand 2, first half (RULES.md, "Opening"): a volume opens exactly when some candidate is a header that keeps every line.
 -- `opened` is the definition that the contract of `opening::open` cites; the rules are stated apart from it. Assumes nothing.
 use Prim.Native.Nat.{ℕ, _-_, _*_, _%_, _^_, _≤_, _<_}
 use mathlib.Core.Path.{_≡_}
@@ -7,12 +7,10 @@ use mathlib.Core.List.{List}
 use lib.ListN.{length, getD}
 use Rattle.layout.specs.declared.Layout.{Layout}
 use Rattle.layout.specs.declared.Opened.the-variants.{Accepted, Refused}
-use Rattle.header.specs.Bytes.{part}
-use Rattle.header.specs.Header.{fieldsOf}
 use Rattle.opening.specs.Locations.{located}
 use Rattle.opening.specs.Opening.{opened}
 use Rattle.opening.specs.declared.Located.the-variants as locations
-use Rattle.guarantees.specs.Header.{IsVera, IsTrue, IsHeader, Line, number, Keeps, FirstBroken}
+use Rattle.guarantees.specs.Header.{bytesAt, IsHeader, Line, number, Keeps, FirstBroken, Tells}
 
 -- n candidates of 512 bytes and n codes, n from 1 to 64
 pub record Lengths (candidates codes : List ℕ) : Type 0 where
@@ -24,7 +22,7 @@ pub record Lengths (candidates codes : List ℕ) : Type 0 where
 unfoldable pub Codes : List ℕ → Type 0
 Codes codes = (i : ℕ) → i < length codes → getD codes i 0 ≤ 3
 
--- S is a multiple of 512, from 262,656 to 2^50
+-- the host: whole sectors, room for both header areas and one sector, and at most 2^50 bytes
 pub record HostSize (hostSize : ℕ) : Type 0 where
   pub multiple : hostSize % 512 ≡ 0
   pub least : 262656 ≤ hostSize
@@ -32,9 +30,9 @@ pub record HostSize (hostSize : ℕ) : Type 0 where
 
 -- the candidate at an index
 unfoldable pub candidate : List ℕ → ℕ → List ℕ
-candidate candidates i = part (i * 512) 512 candidates
+candidate candidates i = bytesAt (i * 512) 512 candidates
 
--- codes 0 and 2 make a standard volume, 1 and 3 a hidden one
+-- the kind of volume at a location: standard at even codes, hidden at odd ones
 unfoldable pub kindOf : ℕ → ℕ
 kindOf code = code % 2
 
@@ -56,17 +54,9 @@ pub record FirstHeader (candidates codes : List ℕ) (hostSize i : ℕ) (line : 
   pub first : (j : ℕ) → j < i → IsHeader (candidate candidates j) → ⊥
   pub breaks : FirstBroken line (kindOf (getD codes i 0)) hostSize (candidate candidates i)
 
--- what a layout tells of a candidate, field by field
-pub record Tells (candidates codes : List ℕ) (hostSize i : ℕ) (layout : Layout) : Type 0 where
-  pub hostSizeTold : layout .«host_size» ≡ hostSize
-  pub kindTold : layout .kind ≡ kindOf (getD codes i 0)
-  pub veraTold : IsVera (candidate candidates i) → layout .magic ≡ 0
-  pub trueTold : IsTrue (candidate candidates i) → layout .magic ≡ 1
-  pub versionTold : layout .version ≡ fieldsOf (candidate candidates i) .version
-  pub minProgramVersionTold : layout .«min_program_version» ≡ fieldsOf (candidate candidates i) .«min_program_version»
-  pub startTold : layout .«data_start» ≡ fieldsOf (candidate candidates i) .«data_start»
-  pub sizeTold : layout .«data_size» ≡ fieldsOf (candidate candidates i) .«data_size»
-  pub candidateTold : layout .candidate ≡ i
+-- what a layout tells of the candidate at an index
+abbrev pub TellsAt : List ℕ → List ℕ → ℕ → ℕ → Layout → Type 0
+TellsAt candidates codes hostSize i layout = Tells (kindOf (getD codes i 0)) hostSize i (candidate candidates i) layout
 
 -- lengths, codes and host size are allowed
 pub record Allowed (candidates codes : List ℕ) (hostSize : ℕ) : Type 0 where
@@ -82,10 +72,10 @@ pub record OpensExactlyWhen (candidates codes : List ℕ) (hostSize : ℕ) : Typ
   pub refuses3 : Lengths candidates codes → Codes codes → (HostSize hostSize → ⊥) → opened candidates codes hostSize ≡ Refused 3
   -- the first accepted candidate gives the layout
   pub accepts : Allowed candidates codes hostSize → (i : ℕ) → FirstAccepted candidates codes hostSize i
-      → (layout : Layout) × (opened candidates codes hostSize ≡ Accepted layout) × Tells candidates codes hostSize i layout
+      → (layout : Layout) × (opened candidates codes hostSize ≡ Accepted layout) × TellsAt candidates codes hostSize i layout
   -- and nothing else does
   pub onlyAccepts : (layout : Layout) → opened candidates codes hostSize ≡ Accepted layout
-      → Allowed candidates codes hostSize × ((i : ℕ) × FirstAccepted candidates codes hostSize i × Tells candidates codes hostSize i layout)
+      → Allowed candidates codes hostSize × ((i : ℕ) × FirstAccepted candidates codes hostSize i × TellsAt candidates codes hostSize i layout)
   -- where none is accepted: the refusal of the first header, by the first line that it breaks
   pub refusesByHeader : Allowed candidates codes hostSize → ((i : ℕ) → IsAccepted candidates codes hostSize i → ⊥)
       → (i : ℕ) (line : Line) → FirstHeader candidates codes hostSize i line → opened candidates codes hostSize ≡ Refused (number line)

@@ -1,24 +1,23 @@
--- Demand 2, second half: user sectors and the host sectors of the data area match one to one, outside all four header areas, each with the tweak the rules give.
+-- Demand 2, second half (RULES.md, "Sector map"): a volume's user sectors match the host sectors of its data area one to one, outside every
+-- header area, and each has its tweak.
 -- `hostSector`, `userSector`, `tweakNumber` and `tweakOf` are the definitions that the contracts of `sector_map` cite. Assumes nothing.
 use Prim.Native.Nat.{ℕ, _+_, _-_, _*_, _/_, _≤_, _<_}
 use mathlib.Core.Path.{_≡_}
-use mathlib.Core.Logic.{_⊎_}
 use mathlib.Core.List.{List}
 use lib.ListN.{length, getD, take, drop, replicate}
 use Rattle.numbers.specs.Numbers.{littleEndian}
-use Rattle.layout.specs.Rules.{standard, hidden}
 use Rattle.layout.specs.declared.Layout.{Layout}
 use Rattle.layout.specs.declared.Opened.the-variants.{Accepted}
 use Rattle.opening.specs.Opening.{opened}
 use Rattle.sector_map.specs.SectorMap.{sectorCount, hostSector, userSector, tweakNumber, tweakOf}
 use Rattle.sector_map.specs.declared.Mapped.the-variants.{Number, Refused}
-use Rattle.guarantees.specs.Header.{DataArea}
+use Rattle.guarantees.specs.Header.{KnownKind, DataArea}
 use Rattle.guarantees.specs.Opening.{HostSize}
 
--- a layout is sound: the rule for S and the last header line hold, with E taken as V, and it is standard or hidden
+-- a layout is sound: its host size is allowed, its kind is known, and its data area keeps the last header line
 pub record Sound (layout : Layout) : Type 0 where
   pub size : HostSize (layout .«host_size»)
-  pub known : (layout .kind ≡ standard) ⊎ (layout .kind ≡ hidden)
+  pub known : KnownKind (layout .kind)
   pub area : DataArea (layout .kind) (layout .«host_size») (layout .«data_start») (layout .«data_size») (layout .«data_size»)
 
 -- a host sector of the data area: its 512 bytes lie from O on, and end by O+V
@@ -38,7 +37,7 @@ pub record OutsideHeaders (hostSize host : ℕ) : Type 0 where
   pub backup : Outside (hostSize - 131072) host
   pub hiddenBackup : Outside (hostSize - 65536) host
 
--- sixteen bytes: a number little-endian in the first 8, then zeros
+-- sixteen bytes: eight that spell a number little-endian, and eight zeros
 pub record IsBlock (number : ℕ) (block : List ℕ) : Type 0 where
   pub sixteen : length block ≡ 16
   pub bytes : (i : ℕ) → getD block i 0 < 256
@@ -62,7 +61,7 @@ pub record MapsSectors (layout : Layout) : Type 0 where
   pub inside : (user host : ℕ) → hostSector layout user ≡ Number host → InArea layout host
   -- outside every header area
   pub outside : (user host : ℕ) → hostSector layout user ≡ Number host → OutsideHeaders (layout .«host_size») host
-  -- the tweak number is the host sector number, counted from the host's start, for hidden volumes too
+  -- the tweak number is the host sector's, so it counts from the start of the host, never of a hidden volume
   pub tweak : (user : ℕ) → tweakNumber layout user ≡ hostSector layout user
   pub fromHostStart : (user number : ℕ) → tweakNumber layout user ≡ Number number → number * 512 ≡ layout .«data_start» + user * 512
   -- the block beside it

@@ -1,15 +1,46 @@
--- Views (document 01, "Views and the lock"): from which layouts one is made, and that what comes out is sound and open.
+-- Views (RULES.md, "Views"): when one is sound, from which layouts one is made, and what it then is, field by field.
 -- `plainView` and `protectedView` are the definitions that the contracts of `view::plain` and `view::protected` cite. Assumes nothing.
-use Prim.Native.Nat.{_+_, _≤_}
+use Prim.Native.Nat.{ℕ, _+_, _%_, _≤_, _<_}
 use mathlib.Core.Path.{_≡_}
-use mathlib.Core.Bool.{Bool, true, false}
+use mathlib.Core.Bool.{Bool, false}
 use Rattle.layout.specs.Rules.{standard, hidden}
 use Rattle.layout.specs.declared.Layout.{Layout}
-use Rattle.view.specs.Views.{soundView, plainOf, protectedOf, plainView, protectedView}
+use Rattle.view.specs.Views.{plainView, protectedView}
+use Rattle.view.specs.declared.Protection.{Protection}
+use Rattle.view.specs.declared.Protection.the-variants.{Unprotected, Protected}
+use Rattle.view.specs.declared.View.{View}
 use Rattle.view.specs.declared.Viewed.the-variants.{Made, Refused}
 use Rattle.guarantees.specs.SectorMap.{Sound}
 
--- two layouts nest: the first standard, the second hidden, S equal, and the hidden data area inside the outer's
+-- a volume's view that protects nothing
+abbrev pub plain : Layout → Bool → View
+plain layout locked = record { layout = layout; protection = Unprotected; locked = locked }
+
+-- an outer volume's view that protects a hidden one's data area, from its first byte to the byte past its end
+abbrev pub protecting : Layout → Layout → Bool → View
+protecting outer inner locked =
+    record { layout = outer; protection = Protected (inner .«data_start») (inner .«data_start» + inner .«data_size»); locked = locked }
+
+-- bytes that may be protected: of a standard volume's data area, on sector boundaries, and at least one sector
+pub record ProtectedRange (layout : Layout) (first end : ℕ) : Type 0 where
+  pub standardVolume : layout .kind ≡ standard
+  pub firstMultiple : first % 512 ≡ 0
+  pub endMultiple : end % 512 ≡ 0
+  pub notEmpty : first < end
+  pub starts : layout .«data_start» ≤ first
+  pub ends : end ≤ layout .«data_start» + layout .«data_size»
+
+-- what is protected, if anything is
+unfoldable pub SoundRange : Layout → Protection → Type 0
+SoundRange layout Unprotected = Unit
+SoundRange layout (Protected first end) = ProtectedRange layout first end
+
+-- a view is sound: its layout and what it protects are, and its lock is open or closed
+pub record SoundView (view : View) : Type 0 where
+  pub layoutSound : Sound (view .layout)
+  pub rangeSound : SoundRange (view .layout) (view .protection)
+
+-- two layouts nest: a standard volume, and a hidden one on the same host whose data area lies in the first's
 pub record Nested (outer inner : Layout) : Type 0 where
   pub standardOuter : outer .kind ≡ standard
   pub hiddenInner : inner .kind ≡ hidden
@@ -19,13 +50,13 @@ pub record Nested (outer inner : Layout) : Type 0 where
 
 -- the claim, for any two layouts
 pub record MakesViews (outer inner : Layout) : Type 0 where
-  -- a plain view from any sound layout, else 11
-  pub plain : Sound outer → plainView outer ≡ Made (plainOf outer false)
+  -- a plain view, its lock open, from any sound layout, else 11
+  pub plainMade : Sound outer → plainView outer ≡ Made (plain outer false)
   pub plainUnsound : (Sound outer → ⊥) → plainView outer ≡ Refused 11
-  -- a protected view: 11 if either is unsound, then 12 unless they nest
-  pub guarded : Sound outer → Sound inner → Nested outer inner → protectedView outer inner ≡ Made (protectedOf outer inner false)
+  -- a protected view, its lock open: 11 if either is unsound, then 12 unless they nest
+  pub guardedMade : Sound outer → Sound inner → Nested outer inner → protectedView outer inner ≡ Made (protecting outer inner false)
   pub guardedUnsound : (Sound outer × Sound inner → ⊥) → protectedView outer inner ≡ Refused 11
   pub guardedApart : Sound outer → Sound inner → (Nested outer inner → ⊥) → protectedView outer inner ≡ Refused 12
   -- what comes out is sound, whatever its lock later
-  pub plainSound : (locked : Bool) → Sound outer → soundView (plainOf outer locked) ≡ true
-  pub guardedSound : (locked : Bool) → Sound outer → Sound inner → Nested outer inner → soundView (protectedOf outer inner locked) ≡ true
+  pub plainSound : (locked : Bool) → Sound outer → SoundView (plain outer locked)
+  pub guardedSound : (locked : Bool) → Sound outer → Sound inner → Nested outer inner → SoundView (protecting outer inner locked)

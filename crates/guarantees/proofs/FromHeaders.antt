@@ -1,0 +1,64 @@
+-- Two headers that open and nest give views for which demand 3 holds. Assumes nothing.
+use Prim.Native.Nat.{ℕ, zero, suc, _<_}
+use native.Mathlib.Omega.{arith}
+use mathlib.Core.Path.{_≡_, sym, ap, _∙_, subst}
+use mathlib.Core.List.{List, [], _∷_}
+use lib.ListN.{length, getD}
+use lib.Seq.{take-all}
+use Rattle.layout.specs.declared.Layout.{Layout}
+use Rattle.layout.specs.declared.Opened.the-variants.{Accepted}
+use Rattle.opening.specs.Opening.{opened}
+use Rattle.guarantees.specs.FromHeaders.{HasArea, HeadersNest, ViewsHold, FromHeaders}
+use Rattle.guarantees.specs.Header.{Tells}
+use Rattle.guarantees.specs.Opening.{candidate, kindOf, TellsAt}
+use Rattle.guarantees.specs.Views.{Nested}
+use Rattle.guarantees.proofs.Interleaving.{demand-3}
+use Rattle.guarantees.proofs.Opening.{opens-exactly-when}
+use Rattle.guarantees.proofs.SectorMap.{opened-sound}
+use Rattle.guarantees.proofs.Views.{makes-views}
+
+-- of one candidate, the first is all of it
+one-candidate : (h : List ℕ) → length h ≡ 512 → candidate h 0 ≡ h
+unfolding candidate
+one-candidate h size = take-all 512 h (omega arith)
+
+-- what an opened header tells, whose index can only be 0
+header-tells : (h : List ℕ) (code hostSize : ℕ) (layout : Layout) → opened h (code ∷ []) hostSize ≡ Accepted layout
+    → Tells (kindOf code) hostSize 0 h layout
+header-tells h code hostSize layout e =
+    let says = opens-exactly-when h (code ∷ []) hostSize .onlyAccepts layout e in
+    let whole : length h ≡ 512 = omega (arith, says .0 .lengths .whole) in
+    go (says .1 .0) (says .1 .1 .accepted .inside) (says .1 .2) whole
+  where
+    go : (i : ℕ) → i < 1 → TellsAt h (code ∷ []) hostSize i layout → length h ≡ 512 → Tells (kindOf code) hostSize 0 h layout
+    go zero lt told whole = subst (λ (header : List ℕ). Tells (kindOf code) hostSize 0 header layout) (one-candidate h whole) told
+    go (suc i) lt told whole = absurd (omega arith)
+
+has-area : {kind hostSize : ℕ} {h : List ℕ} {layout : Layout} → Tells kind hostSize 0 h layout → HasArea hostSize h layout
+has-area told = record { host = told .hostSizeTold; start = told .startTold; size = told .sizeTold }
+
+pub from-headers : (outerHeader innerHeader : List ℕ) (outerCode innerCode hostSize : ℕ)
+    → FromHeaders outerHeader innerHeader outerCode innerCode hostSize
+from-headers outerHeader innerHeader outerCode innerCode hostSize =
+    record {
+      holds = λ outerLayout innerLayout e f nest.
+          let outer = header-tells outerHeader outerCode hostSize outerLayout e in
+          let inner = header-tells innerHeader innerCode hostSize innerLayout f in
+          let outerSound = opened-sound outerHeader (outerCode ∷ []) hostSize outerLayout e in
+          let innerSound = opened-sound innerHeader (innerCode ∷ []) hostSize innerLayout f in
+          let nested : Nested outerLayout innerLayout =
+          record {
+            standardOuter = outer .kindTold ∙ nest .standardCode;
+            hiddenInner = inner .kindTold ∙ nest .hiddenCode;
+            sameHost = outer .hostSizeTold ∙ sym (inner .hostSizeTold);
+            starts = omega (arith, outer .startTold, inner .startTold, nest .starts);
+            ends = omega (arith, outer .startTold, inner .startTold, outer .sizeTold, inner .sizeTold, nest .ends);
+          } in
+          record {
+            outerArea = has-area outer;
+            innerArea = has-area inner;
+            outerView = makes-views outerLayout innerLayout .guardedMade outerSound innerSound nested;
+            innerView = makes-views innerLayout innerLayout .plainMade innerSound;
+            demand3 = demand-3 outerLayout innerLayout .holds outerSound innerSound nested;
+          };
+    }

@@ -1,0 +1,41 @@
+-- `guarantees::demands` meets its contract: every claim has its proof. Assumes nothing.
+use Rattle.guarantees.proofs.Access.{accesses-by-table}
+use Rattle.guarantees.proofs.Boundary.{tells-numbers, returns-zero, orders-numbers, stores-answers}
+use Rattle.guarantees.proofs.BoundaryRuns.{carries-runs}
+use Rattle.guarantees.proofs.FromHeaders.{from-headers}
+use Rattle.guarantees.proofs.Interleaving.{demand-3}
+use Rattle.guarantees.proofs.Judging.{keeps-rules, judges-exactly, lends-keys}
+use Rattle.guarantees.proofs.Numbers.{spells-numbers, checks-bytes}
+use Rattle.guarantees.proofs.Opening.{opens-exactly-when, locates-headers}
+use Rattle.guarantees.proofs.SectorMap.{maps-exactly, opened-sound}
+use Rattle.guarantees.proofs.Views.{makes-views}
+use Rattle.guarantees.proofs.WorkedCases.{as-worked}
+use Rattle.guarantees.proofs.demands.Statement.{statement}
+use Rattle.guarantees.proofs.demands.Tie as tie
+
+returns : tie.Need-returns
+returns c =
+    record {
+      numbers = spells-numbers;
+      checksum = checks-bytes;
+      rules = keeps-rules;
+      judges = judges-exactly;
+      locates = locates-headers;
+      opens = opens-exactly-when;
+      keys = lends-keys;
+      openedSound = opened-sound;
+      maps = maps-exactly;
+      views = makes-views;
+      accesses = accesses-by-table;
+      demand3 = demand-3;
+      fromHeaders = from-headers;
+      told = tells-numbers;
+      zero = returns-zero;
+      ordered = orders-numbers;
+      stored = stores-answers;
+      carried = carries-runs;
+      worked = as-worked;
+    }
+
+pub demands-spec : {M : Type 1} → statement M
+demands-spec = tie.close (tie.spec returns)

@@ -1,0 +1,45 @@
+-- Every claim, for all arguments: what the contract of `guarantees::demands` cites. Assumes nothing.
+use Prim.Native.Nat.{ℕ}
+use mathlib.Core.List.{List}
+use Rattle.layout.specs.declared.Layout.{Layout}
+use Rattle.view.specs.declared.View.{View}
+use Rattle.guarantees.specs.Access.{AccessesByTable}
+use Rattle.guarantees.specs.Boundary.{TellsNumbers, ReturnsZero, OrdersNumbers, StoresAnswers}
+use Rattle.guarantees.specs.BoundaryRuns.{Numbers, CarriesRuns}
+use Rattle.guarantees.specs.FromHeaders.{FromHeaders}
+use Rattle.guarantees.specs.Interleaving.{Demand3}
+use Rattle.guarantees.specs.Judging.{KeepsRules, JudgesExactly, LendsKeys}
+use Rattle.guarantees.specs.Numbers.{SpellsNumbers, ChecksBytes}
+use Rattle.guarantees.specs.Opening.{OpensExactlyWhen, LocatesHeaders}
+use Rattle.guarantees.specs.SectorMap.{MapsExactly, OpenedIsSound}
+use Rattle.guarantees.specs.Views.{MakesViews}
+use Rattle.guarantees.specs.WorkedCases.{AsWorked}
+
+pub record Claims : Type 0 where
+  -- what the others are stated in
+  pub numbers : SpellsNumbers
+  pub checksum : ChecksBytes
+  pub rules : KeepsRules
+  -- demand 2: headers, opening and the sector map
+  pub judges : (kind hostSize index : ℕ) (h : List ℕ) → JudgesExactly kind hostSize index h
+  pub locates : (hostSize : ℕ) → LocatesHeaders hostSize
+  pub opens : (candidates codes : List ℕ) (hostSize : ℕ) → OpensExactlyWhen candidates codes hostSize
+  pub keys : (candidates : List ℕ) (borrowed : ℕ × ℕ) (keys : List ℕ) (returned : ℕ × ℕ) → LendsKeys candidates borrowed keys returned
+  pub openedSound : OpenedIsSound
+  pub maps : (layout : Layout) → MapsExactly layout
+  -- views, and reads and writes on any of them
+  pub views : (outer inner : Layout) → MakesViews outer inner
+  pub accesses : (view : View) (image : List ℕ) (first count : ℕ) (buffer : List ℕ) → AccessesByTable view image first count buffer
+  -- demand 3, and from two headers to it
+  pub demand3 : (outerLayout innerLayout : Layout) → Demand3 outerLayout innerLayout
+  pub fromHeaders : (outerHeader innerHeader : List ℕ) (outerCode innerCode hostSize : ℕ)
+      → FromHeaders outerHeader innerHeader outerCode innerCode hostSize
+  -- the boundary for C and Rust
+  pub told : TellsNumbers
+  pub zero : ReturnsZero
+  pub ordered : (host kind magic version program start size candidate protected first end lock : ℕ)
+      → OrdersNumbers host kind magic version program start size candidate protected first end lock
+  pub stored : (before : List ℕ) → StoresAnswers before
+  pub carried : (numbers : Numbers) → CarriesRuns numbers
+  -- the worked cases
+  pub worked : AsWorked

@@ -1,0 +1,45 @@
+-- From headers to demand 3: two candidates that open at their location codes for one host size, and whose data areas nest, give views for
+-- which demand 3 holds, with the data areas that the headers tell. Assumes nothing.
+use Prim.Native.Nat.{ℕ, _+_, _≤_}
+use mathlib.Core.Path.{_≡_}
+use mathlib.Core.Bool.{Bool, false}
+use mathlib.Core.List.{List, [], _∷_}
+use Rattle.layout.specs.declared.Layout.{Layout}
+use Rattle.layout.specs.declared.Opened.the-variants.{Accepted}
+use Rattle.opening.specs.Opening.{opened}
+use Rattle.view.specs.Views.{plainView, protectedView}
+use Rattle.view.specs.declared.Viewed.the-variants.{Made}
+use Rattle.guarantees.specs.Header.{fieldsAt}
+use Rattle.guarantees.specs.Interleaving.{Interleaved}
+use Rattle.guarantees.specs.Opening.{kindOf}
+use Rattle.guarantees.specs.ReferenceModel.{Call}
+use Rattle.guarantees.specs.Views.{plain, protecting}
+
+-- a layout has the host, and the data area that a header tells
+pub record HasArea (hostSize : ℕ) (h : List ℕ) (layout : Layout) : Type 0 where
+  pub host : layout .«host_size» ≡ hostSize
+  pub start : layout .«data_start» ≡ fieldsAt h .«data_start»
+  pub size : layout .«data_size» ≡ fieldsAt h .«data_size»
+
+-- a header at a standard volume's location, and one at a hidden volume's whose data area lies in the first's
+pub record HeadersNest (outerHeader innerHeader : List ℕ) (outerCode innerCode : ℕ) : Type 0 where
+  pub standardCode : kindOf outerCode ≡ 0
+  pub hiddenCode : kindOf innerCode ≡ 1
+  pub starts : fieldsAt outerHeader .«data_start» ≤ fieldsAt innerHeader .«data_start»
+  pub ends : fieldsAt innerHeader .«data_start» + fieldsAt innerHeader .«data_size»
+      ≤ fieldsAt outerHeader .«data_start» + fieldsAt outerHeader .«data_size»
+
+-- the two views, and what holds of them
+pub record ViewsHold (outerHeader innerHeader : List ℕ) (hostSize : ℕ) (outerLayout innerLayout : Layout) : Type 0 where
+  pub outerArea : HasArea hostSize outerHeader outerLayout
+  pub innerArea : HasArea hostSize innerHeader innerLayout
+  pub outerView : protectedView outerLayout innerLayout ≡ Made (protecting outerLayout innerLayout false)
+  pub innerView : plainView innerLayout ≡ Made (plain innerLayout false)
+  pub demand3 : (outerLocked hiddenLocked : Bool) (image : List ℕ) (xs ys : List Call)
+      → Interleaved outerLayout innerLayout outerLocked hiddenLocked image xs ys
+
+-- the claim, for any bytes
+pub record FromHeaders (outerHeader innerHeader : List ℕ) (outerCode innerCode hostSize : ℕ) : Type 0 where
+  pub holds : (outerLayout innerLayout : Layout) → opened outerHeader (outerCode ∷ []) hostSize ≡ Accepted outerLayout
+      → opened innerHeader (innerCode ∷ []) hostSize ≡ Accepted innerLayout → HeadersNest outerHeader innerHeader outerCode innerCode
+      → ViewsHold outerHeader innerHeader hostSize outerLayout innerLayout

@@ -1,0 +1,53 @@
+-- What stands below opening: the rules for a host's size, a data area and a layout, the judgement of one candidate, and the key bytes.
+-- `hostSizeRule`, `dataAreaRule`, `sound`, `judge` and `KeyBytes` are the definitions that the contracts of `layout`, `header` and
+-- `opening` cite. Assumes nothing.
+use Prim.Native.Nat.{ℕ, _+_, _*_}
+use mathlib.Core.Path.{_≡_}
+use mathlib.Core.Logic.{_↔_}
+use mathlib.Core.Bool.{true}
+use mathlib.Core.List.{List, [], _++_}
+use lib.ListN.{length}
+use Rattle.layout.specs.Rules.{standard, hidden, hostSizeRule, dataAreaRule}
+use Rattle.layout.specs.Soundness.{sound}
+use Rattle.layout.specs.declared.Layout.{Layout}
+use Rattle.layout.specs.declared.Opened.the-variants.{Accepted, Refused}
+use Rattle.header.specs.Header.{judge}
+use Rattle.opening.specs.Opening.{KeyBytes}
+use Rattle.guarantees.specs.Header.{bytesAt, KnownKind, DataArea, IsHeader, Line, number, Keeps, FirstBroken, Tells}
+use Rattle.guarantees.specs.Opening.{HostSize}
+use Rattle.guarantees.specs.SectorMap.{Sound}
+
+-- each rule is met exactly where it holds, and the kinds have these numbers
+pub record KeepsRules : Type 0 where
+  pub standardKind : standard ≡ 0
+  pub hiddenKind : hidden ≡ 1
+  pub hostSizes : (hostSize : ℕ) → (hostSizeRule hostSize ≡ true) ↔ HostSize hostSize
+  pub dataAreas : (kind hostSize start size : ℕ)
+      → (dataAreaRule kind hostSize start size ≡ true) ↔ (KnownKind kind × DataArea kind hostSize start size size)
+  pub layouts : (layout : Layout) → (sound layout ≡ true) ↔ Sound layout
+
+-- the judgement of one candidate by itself, for any bytes, any host size and any index
+pub record JudgesExactly (kind hostSize index : ℕ) (h : List ℕ) : Type 0 where
+  -- 4 for what is no header; only 512 bytes are
+  pub otherLength : (length h ≡ 512 → ⊥) → judge kind hostSize index h ≡ Refused 4
+  pub noHeader : (IsHeader h → ⊥) → judge kind hostSize index h ≡ Refused 4
+  -- a header is refused by the first line that it breaks, and accepted where it keeps all
+  pub breaks : KnownKind kind → length h ≡ 512 → IsHeader h → (line : Line) → FirstBroken line kind hostSize h
+      → judge kind hostSize index h ≡ Refused (number line)
+  pub accepts : KnownKind kind → length h ≡ 512 → IsHeader h → ((line : Line) → Keeps line kind hostSize h)
+      → (layout : Layout) × (judge kind hostSize index h ≡ Accepted layout) × Tells kind hostSize index h layout
+  -- a kind that is neither is never accepted; by which number it is refused the rules leave free
+  pub otherKind : (KnownKind kind → ⊥) → (layout : Layout) → judge kind hostSize index h ≡ Accepted layout → ⊥
+  -- the salt, bytes 0 to 63, is not looked at
+  pub anySalt : (salt other rest : List ℕ) → length salt ≡ 64 → length other ≡ 64
+      → judge kind hostSize index (salt ++ rest) ≡ judge kind hostSize index (other ++ rest)
+
+-- the key bytes: bytes 256 to 511 of the accepted candidate, at their address in the candidates (block, and offset there); on a refusal
+-- the empty part at the candidates' start
+pub record LendsKeys (candidates : List ℕ) (borrowed : ℕ × ℕ) (keys : List ℕ) (returned : ℕ × ℕ) : Type 0 where
+  pub content : (layout : Layout) → KeyBytes (Accepted layout) candidates borrowed keys returned
+      → keys ≡ bytesAt (layout .candidate * 512 + 256) 256 candidates
+  pub address : (layout : Layout) → KeyBytes (Accepted layout) candidates borrowed keys returned
+      → returned ≡ (borrowed .0, layout .candidate * 512 + 256 + borrowed .1)
+  pub noContent : (refusal : ℕ) → KeyBytes (Refused refusal) candidates borrowed keys returned → keys ≡ []
+  pub startAddress : (refusal : ℕ) → KeyBytes (Refused refusal) candidates borrowed keys returned → returned ≡ (borrowed .0, 0 + borrowed .1)

@@ -1,0 +1,43 @@
+-- Numbers of any count of bytes, and CRC-32 (RULES.md, "Numbers and checksums"): laws that fix them, stated apart from their definitions,
+-- which the contracts of `numbers` and `crc32` cite and every other claim uses. Assumes nothing.
+use Prim.Native.Nat.{ℕ, _+_, _*_, _/_, _%_, _^_, _≤_, _<_}
+use mathlib.Core.Path.{_≡_}
+use mathlib.Core.Bool.{cond}
+use mathlib.Core.List.{List, [], _∷_, _++_, reverse}
+use lib.Bits.{bitXor}
+use lib.Dec.{eqb}
+use lib.ListN.{length, getD}
+use Rattle.numbers.specs.Numbers.{bigEndian, littleEndian, littleEndianBytes, ReadAs}
+use Rattle.crc32.specs.Crc32.{crc32}
+
+-- numbers in either order
+pub record SpellsNumbers : Type 0 where
+  -- big-endian: one byte more is one base-256 digit more, behind the others
+  pub bigNone : bigEndian [] ≡ 0
+  pub bigMore : (bytes : List ℕ) (byte : ℕ) → bigEndian (bytes ++ (byte ∷ [])) ≡ bigEndian bytes * 256 + byte
+  -- little-endian: the same, with the bytes in reverse
+  pub littleReversed : (bytes : List ℕ) → littleEndian bytes ≡ bigEndian (reverse bytes)
+  -- written little-endian: so many bytes, which spell what they have room for
+  pub writtenSize : (size number : ℕ) → length (littleEndianBytes size number) ≡ size
+  pub writtenBytes : (size number i : ℕ) → getD (littleEndianBytes size number) i 0 < 256
+  pub written : (size number : ℕ) → littleEndian (littleEndianBytes size number) ≡ number % 256 ^ size
+  -- read into 64 bits: modulo 2^64, and of at most eight bytes the number itself
+  pub readModulo : (number size r : ℕ) → ReadAs number size r → r ≡ number % 2 ^ 64
+  pub readWhole : (number size r : ℕ) → ReadAs number size r → size ≤ 8 → r ≡ number
+
+-- one bit of the register: it moves down, and takes the reflected polynomial where a 1 falls out
+abbrev pub oneBit : ℕ → ℕ
+oneBit c = cond (eqb (c % 2) 0) (c / 2) (bitXor 0xEDB88320 (c / 2))
+
+-- the register before the last exclusive-or
+abbrev pub register : List ℕ → ℕ
+register bytes = bitXor 0xFFFFFFFF (crc32 bytes)
+
+-- CRC-32 of ITU-T V.42
+pub record ChecksBytes : Type 0 where
+  -- of no bytes the register is as it starts; each byte is added to its low end, and eight bits are taken
+  pub starts : register [] ≡ 0xFFFFFFFF
+  pub more : (bytes : List ℕ) (byte : ℕ)
+      → register (bytes ++ (byte ∷ [])) ≡ oneBit (oneBit (oneBit (oneBit (oneBit (oneBit (oneBit (oneBit (bitXor byte (register bytes)))))))))
+  -- the published check value, of the nine ASCII digits 1 to 9
+  pub checkValue : crc32 (0x31 ∷ 0x32 ∷ 0x33 ∷ 0x34 ∷ 0x35 ∷ 0x36 ∷ 0x37 ∷ 0x38 ∷ 0x39 ∷ []) ≡ 0xCBF43926
