@@ -65,92 +65,74 @@ extern "C" {
 /* The answer of a call that is accepted. */
 #define ONDRISTELA_ACCEPTED 0
 
-/* The refusals. Each has a sentence, and in quotes the words of document 01, the rules that the library is
- * proved to keep: when it is given or, for 5 to 10, the rule that the header breaks. There S is host_size, O
- * data_start, V data_size, E encrypted_size, H hidden_size and Z sector_size. A "trial" is a candidate, and n
- * in 1 is how many there are; a "run" is an extent, the n sectors from user sector u on. */
+/* The refusals, each with exactly when it is given. 5 to 10 tell of the first candidate that is a header, where
+ * none is accepted. docs/RULES.md states the rules that the library is proved to keep. */
 
 /* refusals: written by tools/refusals.py from refusals.txt */
 
-/* The candidates are not 1 to 64 headers of 512 bytes, with one location code for each.
- * "trial or code lengths wrong, or n not 1 to 64" */
+/* The candidates are not 1 to 64 headers of 512 bytes, with one location code for each. */
 #define ONDRISTELA_REFUSED_LENGTHS 1
 
-/* A location code is above 3; the codes are 0 standard, 1 hidden, 2 standard backup, 3 hidden backup.
- * "a code above 3" */
+/* A location code is above 3; the codes are 0 standard, 1 hidden, 2 standard backup, 3 hidden backup. */
 #define ONDRISTELA_REFUSED_CODE 2
 
-/* The host_size is not a multiple of 512 from 262,656 to 2^50.
- * "S breaks its rule" */
+/* The host_size is below 262,656, above 2^50, or no multiple of 512. */
 #define ONDRISTELA_REFUSED_HOST_SIZE 3
 
-/* No candidate is a header: the magic is not VERA or TRUE, or a checksum is wrong, as after deciphering
- * with a wrong password or cipher.
- * "no trial is a header" */
+/* No candidate is a header: each has a magic other than VERA and TRUE, or a wrong checksum, as after
+ * deciphering with a wrong password or cipher. */
 #define ONDRISTELA_REFUSED_NO_HEADER 4
 
-/* The header's version is not supported; for VERA it must be 2 to 5, for TRUE 4 or 5.
- * "version: VERA 2 to 5, TRUE 4 or 5" */
+/* The header's version is not supported; for VERA it must be 2 to 5, for TRUE 4 or 5. */
 #define ONDRISTELA_REFUSED_VERSION 5
 
-/* A reserved flag of the header is set, or a reserved byte of a VERA header is not zero.
- * "flags bits 2 to 31 zero; for VERA also bytes 76 to 91 and 132 to 251 zero" */
+/* A reserved flag of the header (bits 2 to 31) is set, or in a VERA header a reserved byte (76 to 91, 132
+ * to 251) is not zero. */
 #define ONDRISTELA_REFUSED_RESERVED 6
 
-/* The header's flags tell of a system volume or one encrypted in place; neither is supported.
- * "flags bits 0 and 1 zero" */
+/* Flag bit 0 or 1 of the header is set, which tells of a system volume or one encrypted in place; neither
+ * is supported. */
 #define ONDRISTELA_REFUSED_FLAGS 7
 
-/* The header's sector_size is not 512, the only one that is supported.
- * "Z is 512" */
+/* The header's sector_size is not 512, the only one that is supported. */
 #define ONDRISTELA_REFUSED_SECTOR_SIZE 8
 
 /* The header's hidden_size does not fit its location code; it must be 0 for a standard volume, and for a
- * hidden one equal to data_size and not 0.
- * "standard: H is 0. Hidden: H is not 0 and equals V" */
+ * hidden one equal to data_size and not 0. */
 #define ONDRISTELA_REFUSED_HIDDEN_SIZE 9
 
-/* The header's data area does not fit the host; it must be whole 512-byte sectors, all encrypted, that
- * start at 131,072 (for a hidden volume there or later) and end at least 131,072 bytes before the host's
- * end.
- * "V is at least 512; V and O are multiples of 512; E equals V; O is 131,072 for a standard volume and at
- * least that for a hidden one; O+V is at most S-131,072 as whole numbers, whatever the field values" */
+/* The header's data area does not fit the host; it must be one or more whole 512-byte sectors, with
+ * encrypted_size equal to data_size, that start at 131,072 (for a hidden volume there or at a later
+ * multiple of 512) and end at least 131,072 bytes before the host's end. */
 #define ONDRISTELA_REFUSED_DATA_AREA 10
 
-/* The layout or view is unsound: its host_size, kind, data area or protected range breaks a rule; use one
- * that an accepted call gave.
- * "unsound layout or view" */
+/* The layout or view is unsound: its host_size is refused 3, its kind is neither standard nor hidden, its
+ * data area does not fit the host as 10 has it, or its protected range is empty, not of whole sectors,
+ * outside the data area or in a hidden volume; use one that an accepted call gave. */
 #define ONDRISTELA_REFUSED_UNSOUND 11
 
 /* The layouts do not nest; the first must be standard and the second hidden, with the same host_size and
- * its data area inside the first's.
- * "pair doesn't nest" */
+ * its data area inside the first's. */
 #define ONDRISTELA_REFUSED_NOT_NESTED 12
 
-/* The image is not host_size bytes long; pass the whole host.
- * "image length is not S" */
+/* The image is not host_size bytes long; pass the whole host. */
 #define ONDRISTELA_REFUSED_IMAGE_SIZE 13
 
-/* The count is above 128; split the extent over several calls.
- * "n above 128" */
+/* The count is above 128; split the extent over several calls. */
 #define ONDRISTELA_REFUSED_COUNT 14
 
-/* The buffer is not 512 bytes long for each sector of the count.
- * "buffer length is not 512n" */
+/* The buffer is not 512 bytes long for each sector of the count. */
 #define ONDRISTELA_REFUSED_BUFFER_SIZE 15
 
-/* The extent reaches past the volume's last sector, or the sector is not one of its data area.
- * "u+n above V/512, the sum a whole number that never wraps; in the map, u not below V/512, or host sector
- * not in the data area" */
+/* First and count add up to more sectors than the volume has; in the map, the user sector is not below
+ * that number, or the host sector lies outside the data area. */
 #define ONDRISTELA_REFUSED_OUTSIDE 16
 
-/* The view's write lock is closed, as refusal 18 leaves it; nothing was written, and reads still work.
- * "lock closed" */
+/* The view's write lock is closed, as refusal 18 leaves it; nothing was written, and reads still work. */
 #define ONDRISTELA_REFUSED_LOCKED 17
 
-/* The write would touch the protected hidden volume; nothing was written, and the view now refuses every
- * write.
- * "run touches the protected range" */
+/* A sector of the write lies in the protected range, which holds the hidden volume; nothing was written,
+ * and the view now refuses every write. */
 #define ONDRISTELA_REFUSED_PROTECTED 18
 
 /* end of refusals */
@@ -235,7 +217,8 @@ uint64_t ondristela_keys(const uint8_t *candidates, size_t candidates_size, cons
                          size_t codes_size, uint64_t host_size, struct ondristela_range *range);
 
 /* Stores the host sector that holds a user sector: one of the volume, counted from 0. Host sectors are
- * counted from the host's start, for hidden volumes too. The number is also the user sector's tweak number.
+ * counted from the host's first byte, whatever the volume's kind. The number is also the user sector's tweak
+ * number.
  * Refusals: 11, 16. They leave *host as it was. */
 uint64_t ondristela_host_sector(const struct ondristela_layout *layout, uint64_t user, uint64_t *host);
 
@@ -257,7 +240,7 @@ uint64_t ondristela_view_protected(const struct ondristela_layout *outer,
                                    const struct ondristela_layout *hidden, struct ondristela_view *view);
 
 /* Fills the buffer with `count` sectors of the image, from user sector `first` on. The image is the whole
- * host, the buffer 512 bytes for each sector. Reads may touch the protected range and ignore the write lock.
+ * host, the buffer 512 bytes for each sector. Neither the protected range nor the write lock hinders a read.
  * Refusals: 11, 13, 14, 15, 16. They leave the buffer as it was. */
 uint64_t ondristela_read(const struct ondristela_view *view, const uint8_t *image, size_t image_size,
                          uint64_t first, uint64_t count, uint8_t *buffer, size_t buffer_size);

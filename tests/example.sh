@@ -77,7 +77,7 @@ same 'a read of the protected range' secrets protected.copy
 
 # A write that is refused leaves the image as it was, also where its first calls would be accepted.
 expect 'a write into the protected range' 1 '(refusal 18)' on_disk write outer 725 results
-expect 'its rule' 1 'rule: run touches the protected range' on_disk write outer 725 results
+expect 'its sentence' 1 'refused: a sector of the write lies in the protected range' on_disk write outer 725 results
 expect 'a write inside the protected range' 1 '(refusal 18)' on_disk write outer 1100 results
 expect 'a write past the outer end' 1 '(refusal 16)' on_disk write outer 1237 results
 expect 'a write past the hidden end' 1 '(refusal 16)' on_disk write hidden 213 results

@@ -12,7 +12,7 @@ import textwrap
 from pathlib import Path
 
 ROOT = Path(__file__).resolve().parent.parent
-KEYS = ['number', 'constant', 'variant', 'rule', 'sentence']
+KEYS = ['number', 'constant', 'variant', 'sentence']
 WIDTH = 110
 
 C_MARKERS = ('/* refusals: written by tools/refusals.py from refusals.txt */\n', '/* end of refusals */\n')
@@ -49,9 +49,7 @@ def sentence_case(text):
 # The C header.
 
 def c_constant(record):
-    words = textwrap.wrap(sentence_case(record['sentence']), WIDTH - 6)
-    quote = textwrap.wrap(f'"{record["rule"]}"', WIDTH - 6)
-    comment = '\n * '.join(words + quote)
+    comment = '\n * '.join(textwrap.wrap(sentence_case(record['sentence']), WIDTH - 6))
     return f'/* {comment} */\n#define ONDRISTELA_REFUSED_{record["constant"]} {record["number"]}\n'
 
 
@@ -74,13 +72,13 @@ def rust_variant(record):
     return f'{doc}    {record["variant"]} = {record["number"]},\n'
 
 
-def rust_arm(record, key):
+def rust_arm(record):
     """An arm of a match on self: the string beside the arrow if it fits, else in a block below it."""
     arm = f'            Refusal::{record["variant"]} => '
-    beside = f'{arm}"{record[key]}",\n'
+    beside = f'{arm}"{record["sentence"]}",\n'
     if len(beside) <= WIDTH + 1:
         return beside
-    lines = textwrap.wrap(record[key], WIDTH - 20)
+    lines = textwrap.wrap(record['sentence'], WIDTH - 20)
     literal = (' \\\n' + ' ' * 17).join(lines)
     return f'{arm}{{\n{" " * 16}"{literal}"\n            }}\n'
 
@@ -88,14 +86,14 @@ def rust_arm(record, key):
 def rust_file(records):
     variants = ''.join(rust_variant(record) for record in records)
     all_variants = ''.join(f'        Refusal::{record["variant"]},\n' for record in records)
-    rules = ''.join(rust_arm(record, 'rule') for record in records)
-    sentences = ''.join(rust_arm(record, 'sentence') for record in records)
+    sentences = ''.join(rust_arm(record) for record in records)
     return f'''\
 //! The refusals. Written by tools/refusals.py from refusals.txt: edit that file and not this one.
 
 use std::fmt;
 
 /// Why a call was refused. A refused call has changed nothing, except that `Protected` locks the view.
+/// docs/RULES.md has the table of refusals, and the order in which a call tests them.
 ///
 /// ```
 /// use ondristela::{{Location, Refusal}};
@@ -117,7 +115,7 @@ impl Refusal {{
     pub const ALL: [Refusal; 18] = [
 {all_variants}    ];
 
-    /// Document 01's number, 1 to 18.
+    /// Its number, 1 to 18.
     pub fn number(self) -> u8 {{
         self as u8
     }}
@@ -127,13 +125,7 @@ impl Refusal {{
         Refusal::ALL.into_iter().find(|refusal| u64::from(refusal.number()) == number)
     }}
 
-    /// Document 01's words: when the refusal is given or, for 5 to 10, the rule that the header breaks.
-    pub fn rule(self) -> &'static str {{
-        match self {{
-{rules}        }}
-    }}
-
-    /// The rule in this crate's words, with what can be done about it.
+    /// When the refusal is given, and what can be done about it.
     fn sentence(self) -> &'static str {{
         match self {{
 {sentences}        }}

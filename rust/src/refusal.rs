@@ -3,6 +3,7 @@
 use std::fmt;
 
 /// Why a call was refused. A refused call has changed nothing, except that `Protected` locks the view.
+/// docs/RULES.md has the table of refusals, and the order in which a call tests them.
 ///
 /// ```
 /// use ondristela::{Location, Refusal};
@@ -11,7 +12,7 @@ use std::fmt;
 /// assert_eq!(refusal, Refusal::HostSize);
 /// assert_eq!(
 ///     refusal.to_string(),
-///     "the host_size is not a multiple of 512 from 262,656 to 2^50 (refusal 3)"
+///     "the host_size is below 262,656, above 2^50, or no multiple of 512 (refusal 3)"
 /// );
 /// ```
 #[derive(Clone, Copy, Debug, PartialEq, Eq, Hash)]
@@ -22,28 +23,31 @@ pub enum Refusal {
     /// A location code is above 3; the codes are 0 standard, 1 hidden, 2 standard backup, 3 hidden
     /// backup.
     Code = 2,
-    /// The host_size is not a multiple of 512 from 262,656 to 2^50.
+    /// The host_size is below 262,656, above 2^50, or no multiple of 512.
     HostSize = 3,
-    /// No candidate is a header: the magic is not VERA or TRUE, or a checksum is wrong, as after
+    /// No candidate is a header: each has a magic other than VERA and TRUE, or a wrong checksum, as after
     /// deciphering with a wrong password or cipher.
     NoHeader = 4,
     /// The header's version is not supported; for VERA it must be 2 to 5, for TRUE 4 or 5.
     Version = 5,
-    /// A reserved flag of the header is set, or a reserved byte of a VERA header is not zero.
+    /// A reserved flag of the header (bits 2 to 31) is set, or in a VERA header a reserved byte (76 to
+    /// 91, 132 to 251) is not zero.
     Reserved = 6,
-    /// The header's flags tell of a system volume or one encrypted in place; neither is supported.
+    /// Flag bit 0 or 1 of the header is set, which tells of a system volume or one encrypted in place;
+    /// neither is supported.
     Flags = 7,
     /// The header's sector_size is not 512, the only one that is supported.
     SectorSize = 8,
     /// The header's hidden_size does not fit its location code; it must be 0 for a standard volume, and
     /// for a hidden one equal to data_size and not 0.
     HiddenSize = 9,
-    /// The header's data area does not fit the host; it must be whole 512-byte sectors, all encrypted,
-    /// that start at 131,072 (for a hidden volume there or later) and end at least 131,072 bytes before
-    /// the host's end.
+    /// The header's data area does not fit the host; it must be one or more whole 512-byte sectors, with
+    /// encrypted_size equal to data_size, that start at 131,072 (for a hidden volume there or at a later
+    /// multiple of 512) and end at least 131,072 bytes before the host's end.
     DataArea = 10,
-    /// The layout or view is unsound: its host_size, kind, data area or protected range breaks a rule;
-    /// use one that an accepted call gave.
+    /// The layout or view is unsound: its host_size is refused 3, its kind is neither standard nor
+    /// hidden, its data area does not fit the host as 10 has it, or its protected range is empty, not of
+    /// whole sectors, outside the data area or in a hidden volume; use one that an accepted call gave.
     Unsound = 11,
     /// The layouts do not nest; the first must be standard and the second hidden, with the same host_size
     /// and its data area inside the first's.
@@ -54,13 +58,14 @@ pub enum Refusal {
     Count = 14,
     /// The buffer is not 512 bytes long for each sector of the count.
     BufferSize = 15,
-    /// The extent reaches past the volume's last sector, or the sector is not one of its data area.
+    /// First and count add up to more sectors than the volume has; in the map, the user sector is not
+    /// below that number, or the host sector lies outside the data area.
     Outside = 16,
     /// The view's write lock is closed, as refusal 18 leaves it; nothing was written, and reads still
     /// work.
     Locked = 17,
-    /// The write would touch the protected hidden volume; nothing was written, and the view now refuses
-    /// every write.
+    /// A sector of the write lies in the protected range, which holds the hidden volume; nothing was
+    /// written, and the view now refuses every write.
     Protected = 18,
 }
 
@@ -87,7 +92,7 @@ impl Refusal {
         Refusal::Protected,
     ];
 
-    /// Document 01's number, 1 to 18.
+    /// Its number, 1 to 18.
     pub fn number(self) -> u8 {
         self as u8
     }
@@ -97,38 +102,7 @@ impl Refusal {
         Refusal::ALL.into_iter().find(|refusal| u64::from(refusal.number()) == number)
     }
 
-    /// Document 01's words: when the refusal is given or, for 5 to 10, the rule that the header breaks.
-    pub fn rule(self) -> &'static str {
-        match self {
-            Refusal::Lengths => "trial or code lengths wrong, or n not 1 to 64",
-            Refusal::Code => "a code above 3",
-            Refusal::HostSize => "S breaks its rule",
-            Refusal::NoHeader => "no trial is a header",
-            Refusal::Version => "version: VERA 2 to 5, TRUE 4 or 5",
-            Refusal::Reserved => "flags bits 2 to 31 zero; for VERA also bytes 76 to 91 and 132 to 251 zero",
-            Refusal::Flags => "flags bits 0 and 1 zero",
-            Refusal::SectorSize => "Z is 512",
-            Refusal::HiddenSize => "standard: H is 0. Hidden: H is not 0 and equals V",
-            Refusal::DataArea => {
-                "V is at least 512; V and O are multiples of 512; E equals V; O is 131,072 for a standard \
-                 volume and at least that for a hidden one; O+V is at most S-131,072 as whole numbers, \
-                 whatever the field values"
-            }
-            Refusal::Unsound => "unsound layout or view",
-            Refusal::NotNested => "pair doesn't nest",
-            Refusal::ImageSize => "image length is not S",
-            Refusal::Count => "n above 128",
-            Refusal::BufferSize => "buffer length is not 512n",
-            Refusal::Outside => {
-                "u+n above V/512, the sum a whole number that never wraps; in the map, u not below V/512, \
-                 or host sector not in the data area"
-            }
-            Refusal::Locked => "lock closed",
-            Refusal::Protected => "run touches the protected range",
-        }
-    }
-
-    /// The rule in this crate's words, with what can be done about it.
+    /// When the refusal is given, and what can be done about it.
     fn sentence(self) -> &'static str {
         match self {
             Refusal::Lengths => {
@@ -138,19 +112,21 @@ impl Refusal {
                 "a location code is above 3; the codes are 0 standard, 1 hidden, 2 standard backup, 3 \
                  hidden backup"
             }
-            Refusal::HostSize => "the host_size is not a multiple of 512 from 262,656 to 2^50",
+            Refusal::HostSize => "the host_size is below 262,656, above 2^50, or no multiple of 512",
             Refusal::NoHeader => {
-                "no candidate is a header: the magic is not VERA or TRUE, or a checksum is wrong, as after \
-                 deciphering with a wrong password or cipher"
+                "no candidate is a header: each has a magic other than VERA and TRUE, or a wrong checksum, \
+                 as after deciphering with a wrong password or cipher"
             }
             Refusal::Version => {
                 "the header's version is not supported; for VERA it must be 2 to 5, for TRUE 4 or 5"
             }
             Refusal::Reserved => {
-                "a reserved flag of the header is set, or a reserved byte of a VERA header is not zero"
+                "a reserved flag of the header (bits 2 to 31) is set, or in a VERA header a reserved byte \
+                 (76 to 91, 132 to 251) is not zero"
             }
             Refusal::Flags => {
-                "the header's flags tell of a system volume or one encrypted in place; neither is supported"
+                "flag bit 0 or 1 of the header is set, which tells of a system volume or one encrypted in \
+                 place; neither is supported"
             }
             Refusal::SectorSize => "the header's sector_size is not 512, the only one that is supported",
             Refusal::HiddenSize => {
@@ -158,13 +134,16 @@ impl Refusal {
                  volume, and for a hidden one equal to data_size and not 0"
             }
             Refusal::DataArea => {
-                "the header's data area does not fit the host; it must be whole 512-byte sectors, all \
-                 encrypted, that start at 131,072 (for a hidden volume there or later) and end at least \
-                 131,072 bytes before the host's end"
+                "the header's data area does not fit the host; it must be one or more whole 512-byte \
+                 sectors, with encrypted_size equal to data_size, that start at 131,072 (for a hidden \
+                 volume there or at a later multiple of 512) and end at least 131,072 bytes before the \
+                 host's end"
             }
             Refusal::Unsound => {
-                "the layout or view is unsound: its host_size, kind, data area or protected range breaks a \
-                 rule; use one that an accepted call gave"
+                "the layout or view is unsound: its host_size is refused 3, its kind is neither standard \
+                 nor hidden, its data area does not fit the host as 10 has it, or its protected range is \
+                 empty, not of whole sectors, outside the data area or in a hidden volume; use one that an \
+                 accepted call gave"
             }
             Refusal::NotNested => {
                 "the layouts do not nest; the first must be standard and the second hidden, with the same \
@@ -174,16 +153,16 @@ impl Refusal {
             Refusal::Count => "the count is above 128; split the extent over several calls",
             Refusal::BufferSize => "the buffer is not 512 bytes long for each sector of the count",
             Refusal::Outside => {
-                "the extent reaches past the volume's last sector, or the sector is not one of its data \
-                 area"
+                "first and count add up to more sectors than the volume has; in the map, the user sector is \
+                 not below that number, or the host sector lies outside the data area"
             }
             Refusal::Locked => {
                 "the view's write lock is closed, as refusal 18 leaves it; nothing was written, and reads \
                  still work"
             }
             Refusal::Protected => {
-                "the write would touch the protected hidden volume; nothing was written, and the view now \
-                 refuses every write"
+                "a sector of the write lies in the protected range, which holds the hidden volume; nothing \
+                 was written, and the view now refuses every write"
             }
         }
     }

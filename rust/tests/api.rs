@@ -143,7 +143,7 @@ fn refusals_and_their_numbers() {
         let number = index as u64 + 1;
         assert_eq!(u64::from(refusal.number()), number);
         assert_eq!(Refusal::from_number(number), Some(refusal));
-        assert!(!refusal.rule().is_empty() && !refusal.to_string().is_empty());
+        assert!(refusal.to_string().ends_with(&format!(" (refusal {number})")));
     }
     assert_eq!([0, 19, 256 + 1, u64::MAX].map(Refusal::from_number), [None; 4]);
 }

@@ -50,7 +50,7 @@ impl fmt::Display for Problem {
             }
             Problem::File { path, ground } => writeln!(formatter, "file: {}: {ground}", path.display()),
             Problem::Refused { refusal, header } => {
-                writeln!(formatter, "refused: {refusal}\nrule: {}", refusal.rule())?;
+                writeln!(formatter, "refused: {refusal}")?;
                 header.iter().try_for_each(|path| writeln!(formatter, "header: {}", path.display()))
             }
         }
