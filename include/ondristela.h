@@ -226,7 +226,7 @@ uint64_t ondristela_host_sector(const struct ondristela_layout *layout, uint64_t
  * Refusals: 11, 16. They leave *user as it was. */
 uint64_t ondristela_user_sector(const struct ondristela_layout *layout, uint64_t host, uint64_t *user);
 
-/* Stores a user sector's tweak block: its tweak number, little-endian in the first 8 bytes, then zeros.
+/* Stores a user sector's tweak block: the 8 bytes of its tweak number, the least significant first, then 8 zeros.
  * Refusals: 11, 16. They leave the block as it was. */
 uint64_t ondristela_tweak(const struct ondristela_layout *layout, uint64_t user, uint8_t block[16]);
 

@@ -1,8 +1,8 @@
 #!/usr/bin/env python3
 """Makes the inputs and expected outputs of the programs `vectors`, `map_vectors`, `view_vectors` and `volmap`.
 
-Document 01 is written out a second time in the folder vectors, from its text and not from the Rattle code, with
-zlib's CRC-32. Each case says by hand which answer document 01 gives it, and that is held to what is
+The rules of docs/RULES.md are written out a second time in the folder vectors, from their text and not from the
+Rattle code, with zlib's CRC-32. Each case says by hand which answer they give it, and that is held to what is
 computed here before any file is written.
 
     tests/make_vectors.py            write the files

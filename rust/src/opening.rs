@@ -43,8 +43,8 @@ impl Location {
 }
 
 /// Opens a volume. `candidates` holds deciphered headers of 512 bytes, from 1 to 64, and `codes` the code
-/// of each one's location. The first that is accepted gives the layout; where none is, the refusal is that
-/// of the first that is a header.
+/// of each one's location. The first that is accepted gives the layout; without one, the first that is a
+/// header gives the refusal.
 pub fn open(candidates: &[u8], codes: &[u8], host_size: u64) -> Result<Layout, Refusal> {
     let mut numbers = [0; 8];
     Refusal::check(raw::open(candidates, codes, host_size, &mut numbers))?;

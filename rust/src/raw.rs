@@ -1,6 +1,6 @@
 //! The library's functions as they are: numbers and slices, and a refusal number as the answer.
 //!
-//! Each returns 0 where it accepts and else document 01's refusal number. A refusal changes nothing that
+//! Each returns 0 where it accepts and else a refusal number (docs/RULES.md). A refusal changes nothing that
 //! was passed for writing, but for 18, which sets the view's last number. The functions are safe for any
 //! arguments: every one is proved with no condition on them.
 

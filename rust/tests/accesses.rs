@@ -1,4 +1,4 @@
-//! Reads and writes on views that a caller made up, compared with document 01's rules in `reference`.
+//! Reads and writes on views that a caller made up, compared with the rules in `reference`.
 
 mod cases;
 mod reference;

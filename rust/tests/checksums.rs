@@ -6,7 +6,7 @@ use ondristela::raw;
 use reference::crc::crc32;
 use reference::random::Random;
 
-/// Document 01's check value, of the nine ASCII digits.
+/// The published check value, of the nine ASCII digits.
 #[test]
 fn check_value() {
     assert_eq!(raw::crc32(b"123456789"), 0xCBF4_3926);

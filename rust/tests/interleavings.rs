@@ -1,5 +1,5 @@
 //! Interleavings of two lists of calls on one image, compared with the reference model and with each other
-//! (document 01, "Demand 3 as one claim").
+//! (docs/RULES.md, Interleavings).
 
 mod cases;
 mod reference;

@@ -1,4 +1,4 @@
-//! The sector map, compared with document 01's rules in `reference`.
+//! The sector map, compared with the rules in `reference`.
 
 mod cases;
 mod reference;

@@ -1,4 +1,4 @@
-//! Openings, compared with document 01's rules in `reference`.
+//! Openings, compared with the rules in `reference`.
 
 mod cases;
 mod reference;

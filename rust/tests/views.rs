@@ -1,4 +1,4 @@
-//! The making of views, compared with document 01's rules in `reference`.
+//! The making of views, compared with the rules in `reference`.
 
 mod cases;
 mod reference;

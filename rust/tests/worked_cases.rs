@@ -1,4 +1,4 @@
-//! Document 01's "Numbers on either side", and real headers: the library and the reference both give the
+//! The worked cases of docs/RULES.md, and real headers: the library and the reference both give the
 //! numbers that are printed there.
 
 mod reference;

@@ -1,4 +1,4 @@
-/* Whether the refusals are document 01's numbers, and CRC-32 of the nine digits is the published one. */
+/* Whether the refusals are the numbers of docs/RULES.md, and CRC-32 of the nine digits is the published one. */
 #include "check.h"
 #include "ondristela.h"
 #include "tests.h"

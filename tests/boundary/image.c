@@ -1,4 +1,4 @@
-/* Reads and writes of one image of document 01's host, each with a check of what it leaves in memory. */
+/* Reads and writes of one image of the worked cases' host, each with a check of what it leaves in memory. */
 #include "image.h"
 
 #include <string.h>

@@ -1,4 +1,4 @@
-/* Reads and writes of one image of document 01's host, each with a check of what it leaves in memory. */
+/* Reads and writes of one image of the worked cases' host, each with a check of what it leaves in memory. */
 #ifndef IMAGE_H
 #define IMAGE_H
 
@@ -10,11 +10,11 @@
 /* Fills the image with bytes that differ from one sector to the next. Comes before reads and writes. */
 void fill_image(void);
 
-/* Writes bytes that no earlier call wrote. Image and view must be left as document 01 says. */
+/* Writes bytes that no earlier call wrote. Image and view must be left as docs/RULES.md says. */
 uint64_t write_at(struct ondristela_view *view, size_t image_size, uint64_t first, uint64_t count,
                   size_t buffer_size);
 
-/* Reads. The buffer must be left as document 01 says, the image and what follows the buffer as they were. */
+/* Reads. The buffer must be left as docs/RULES.md says, the image and what follows the buffer as they were. */
 uint64_t read_at(const struct ondristela_view *view, size_t image_size, uint64_t first, uint64_t count,
                  size_t buffer_size);
 

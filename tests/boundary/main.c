@@ -1,4 +1,4 @@
-/* The C boundary: document 01's worked cases, and each refusal with what it leaves. Valid as C11 and as
+/* The C boundary: the worked cases of docs/RULES.md, and each refusal with what it leaves. Valid as C11 and as
  * C++11; tests/boundary.sh compiles and runs it as both. Exits 1 where a check fails. */
 #include "check.h"
 #include "image.h"

@@ -1,4 +1,4 @@
-/* Document 01's volumes: M, and N hidden in it. Their headers, layouts and views. */
+/* The volumes of the worked cases: M, and N hidden in it. Their headers, layouts and views. */
 #include "volumes.h"
 
 #include <string.h>

@@ -1,4 +1,4 @@
-/* Document 01's volumes: M, and N hidden in it. Their headers, layouts and views. */
+/* The volumes of the worked cases: M, and N hidden in it. Their headers, layouts and views. */
 #ifndef VOLUMES_H
 #define VOLUMES_H
 

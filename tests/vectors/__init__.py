@@ -1,1 +1,1 @@
-"""Document 01 a second time, in Python, and the cases that the programs run."""
+"""The rules of docs/RULES.md a second time, in Python, and the cases that the programs run."""

@@ -1,4 +1,4 @@
-"""Document 01's rules for opening and for the sector map, written from its text."""
+"""The rules for opening and for the sector map (docs/RULES.md), written from their text."""
 import zlib
 
 

@@ -40,7 +40,7 @@ def header(magic=b'TRUE', version=5, needs=b'\x07\x00', hidden_size=0, data_size
 
 
 def hidden(**changes):
-    """Document 01's N, and with changes another hidden volume. Its hidden size follows its data size."""
+    """The worked cases' N, and with changes another hidden volume. Its hidden size follows its data size."""
     fields = {'data_size': 262_144, 'data_start': 655_360, **changes}
     return header(**{'hidden_size': fields['data_size'], **fields})
 

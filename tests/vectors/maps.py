@@ -91,7 +91,7 @@ MAPS = [
 def maps():
     files = {'crates/volmap/stdin': WORKED_INPUT, 'crates/volmap/stdout': WORKED.encode()}
     for name, output, data in MAPS:
-        assert map_output(data) == output, f'{name}: document 01 says {output!r}, not {map_output(data)!r}'
+        assert map_output(data) == output, f'{name}: the rules say {output!r}, not {map_output(data)!r}'
         files[f'tests/volmap/{name}.in'] = data
         files[f'tests/volmap/{name}.out'] = output.encode()
     return files

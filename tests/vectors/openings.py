@@ -222,7 +222,7 @@ def cases():
     yield from LENGTHS
 
 
-# By hand, from document 01.
+# By hand, from docs/RULES.md.
 CHECK_VALUES = '''\
 crc32 123456789 cbf43926
 crc32  00000000
@@ -268,7 +268,7 @@ def vectors():
         computed = open_volume(host_size, codes, candidates)
         agrees = computed == answer if isinstance(answer, int) else (
             isinstance(computed, dict) and answer.items() <= computed.items())
-        assert agrees, f'{name}: document 01 says {answer}, and {computed} was computed'
+        assert agrees, f'{name}: the rules say {answer}, and {computed} was computed'
         assert name not in names, f'two cases are named {name}'
         names.add(name)
         stream += record(name, host_size, codes, candidates)

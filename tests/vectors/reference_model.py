@@ -1,4 +1,4 @@
-"""Document 01's views, and a model of reads and writes that goes sector by sector."""
+"""Views as the rules have them, and a model of reads and writes that goes sector by sector."""
 import zlib
 
 from .document01 import host_sector, is_sound, sector_count

@@ -5,14 +5,14 @@ from .openings import HOST
 
 def layout(host_size=HOST, kind=0, magic=1, version=5, min_program_version=7, data_start=131_072,
            data_size=786_432, candidate=0):
-    """Document 01's M as a layout, and with changes another one."""
+    """The worked cases' M as a layout, and with changes another one."""
     return {'host_size': host_size, 'kind': kind, 'magic': magic, 'version': version,
             'min_program_version': min_program_version, 'data_start': data_start, 'data_size': data_size,
             'candidate': candidate}
 
 
 def hidden_layout(**changes):
-    """Document 01's N as a layout, and with changes another hidden one."""
+    """The worked cases' N as a layout, and with changes another hidden one."""
     return layout(**{'kind': 1, 'data_start': 655_360, 'data_size': 262_144, **changes})
 
 
@@ -135,7 +135,7 @@ def map_vectors():
         tweak = host_sector(fields, sector)
         computed = (is_sound(fields), sector_count(fields), tweak, user_sector(fields, sector), tweak,
                     tweak_block(tweak))
-        assert computed == answers, f'{name}: document 01 says {answers}, and {computed} was computed'
+        assert computed == answers, f'{name}: the rules say {answers}, and {computed} was computed'
         assert name not in names, f'two cases are named {name}'
         names.add(name)
         stream += map_record(name, fields, sector)

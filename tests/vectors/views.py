@@ -50,7 +50,7 @@ def view_vectors():
     stream, text, names, answers, groups = b'', '', set(), set(), {}
     for name, answer, call in view_cases():
         computed, buffer = run_call(model, call)
-        assert computed == answer, f'{name}: document 01 says {answer}, and {computed} was computed'
+        assert computed == answer, f'{name}: the rules say {answer}, and {computed} was computed'
         assert name not in names, f'two cases are named {name}'
         names.add(name)
         answers.add((call['operation'], answer))

@@ -1,4 +1,4 @@
--- CRC-32 of ITU-T V.42, bit by bit from the reflected polynomial EDB88320: what the contracts of `crc32` cite. Assumes nothing.
+-- CRC-32 of ITU-T V.42 (RULES.md, Header bytes), bit by bit from the reflected polynomial EDB88320: what the contracts of `crc32` cite. Assumes nothing.
 use Prim.Native.Nat.{ℕ, zero, suc, _*_, _/_, _%_}
 use mathlib.Core.List.{List, [], _∷_}
 use lib.Bits.{bitXor}

@@ -1,5 +1,5 @@
--- The 512 header bytes (document 01): their fields, when they are a header, and the lines that an accepted header keeps.
--- What the contracts of `header` cite, in document 01's order. Assumes nothing.
+-- The 512 bytes of a header (RULES.md, Header bytes): their fields, when they are a header, and the lines that an accepted header keeps.
+-- What the contracts of `header` cite, in the rules' order. Assumes nothing.
 use Prim.Native.Nat.{ℕ, _/_, _%_}
 use mathlib.Core.Bool.{Bool, true, _&&_, not, cond}
 use mathlib.Core.List.{List, [], _∷_}
@@ -33,11 +33,11 @@ trueMagic = 84 ∷ 82 ∷ 85 ∷ 69 ∷ []
 abbrev pub truecrypt : ℕ
 truecrypt = 1
 
--- which magic (document 01's mark) bytes 64 to 67 spell: VERA, TRUE, or neither, which is 2
+-- which magic (the lab's "mark") bytes 64 to 67 spell: VERA, TRUE, or neither, which is 2
 unfoldable pub magicOf : List ℕ → ℕ
 magicOf h = cond (sameBytes (part 64 4 h) veraMagic) vera (cond (sameBytes (part 64 4 h) trueMagic) truecrypt 2)
 
--- the numbers of the header; the min program version (document 01's least program version) alone is little-endian
+-- the numbers of the header; the min program version (the lab's "least program version") alone is little-endian
 unfoldable pub fieldsOf : List ℕ → Fields
 fieldsOf h =
     record {
@@ -59,11 +59,11 @@ checksumsMatch h = eqb (crc32 (part 256 256 h)) (bigEndian (part 72 4 h)) && eqb
 unfoldable pub isHeader : List ℕ → Bool
 isHeader h = eqb (length h) headerBytes && leb (magicOf h) truecrypt && checksumsMatch h
 
--- line 5, the version: VERA 2 to 5, TRUE 4 or 5
+-- line 5, the version: from 2 to 5 with the magic VERA, 4 or 5 with TRUE
 unfoldable pub versionRule : ℕ → ℕ → Bool
 versionRule magic version = leb version 5 && cond (eqb magic vera) (leb 2 version) (leb 4 version)
 
--- line 6, reserved bits and bytes: flags bits 2 to 31 zero; for VERA also bytes 76 to 91 and 132 to 251
+-- line 6, what is reserved: no flag is set above bit 1, and with the magic VERA the 16 bytes at 76 and the 120 at 132 are zero
 unfoldable pub reservedRule : ℕ → ℕ → List ℕ → Bool
 reservedRule magic flags h = eqb (flags / 4) 0 && cond (eqb magic vera) (allZero (part 76 16 h) && allZero (part 132 120 h)) true
 

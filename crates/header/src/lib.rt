@@ -51,10 +51,10 @@ pub const KEYS: usize = 256;
 
 pub const KEYS_SIZE: usize = 256;
 
-// The numbers of a header. Document 01's names stand behind those that differ.
+// The numbers of a header (RULES.md, Header bytes), with the rules' letters behind them.
 pub struct Fields {
     pub version: u64,
-    pub min_program_version: u64, // the least program version
+    pub min_program_version: u64,
     pub hidden_size: u64, // H
     pub data_size: u64, // V
     pub data_start: u64, // O

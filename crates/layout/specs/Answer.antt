@@ -1,10 +1,10 @@
--- What an answer says, in document 01's numbers. Assumes nothing.
+-- What an answer says, as a number (RULES.md, Refusals). Assumes nothing.
 use Prim.Native.Nat.{ℕ}
 use mathlib.Core.Bool.{Bool, cond}
 use Rattle.layout.specs.declared.Opened.{Opened}
 use Rattle.layout.specs.declared.Opened.the-variants.{Accepted, Refused}
 
--- document 01's refusal number; 0 for an acceptance is our own convention
+-- the refusal number; 0 for an acceptance is our own convention
 unfoldable pub numberOf : Opened → ℕ
 numberOf (Accepted layout) = 0
 numberOf (Refused number) = number

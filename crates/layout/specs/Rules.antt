@@ -28,7 +28,7 @@ standard = 0
 abbrev pub hidden : ℕ
 hidden = 1
 
--- document 01's rule for S: a multiple of 512, from 262,656 to 2^50
+-- the rule for S (RULES.md, Opening): whole sectors, at least 262,656 bytes and at most 2^50
 unfoldable pub hostSizeRule : ℕ → Bool
 hostSizeRule hostSize = eqb (hostSize % sectorBytes) 0 && leb minHostSize hostSize && leb hostSize maxHostSize
 
@@ -36,11 +36,11 @@ hostSizeRule hostSize = eqb (hostSize % sectorBytes) 0 && leb minHostSize hostSi
 unfoldable pub startRule : ℕ → ℕ → Bool
 startRule kind start = cond (eqb kind standard) (eqb start headersSize) (eqb kind hidden && leb headersSize start)
 
--- O+V is at most S-131,072, as whole numbers: the data area ends before the backup headers
+-- the data area ends before the backup headers: O+V+131,072 is no more than S, as whole numbers
 unfoldable pub endRule : ℕ → ℕ → ℕ → Bool
 endRule hostSize start size = leb (start + size + headersSize) hostSize
 
--- document 01's last header line with E taken as V: for a kind, S, O and V
+-- line 10 of a header's rules (RULES.md, Header bytes) with E taken as V: for a kind, S, O and V
 unfoldable pub dataAreaRule : ℕ → ℕ → ℕ → ℕ → Bool
 dataAreaRule kind hostSize start size =
     leb sectorBytes size && eqb (size % sectorBytes) 0 && eqb (start % sectorBytes) 0 && startRule kind start && endRule hostSize start size

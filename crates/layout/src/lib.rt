@@ -20,20 +20,20 @@ pub const MIN_HOST_SIZE: u64 = 262_656;
 
 pub const MAX_HOST_SIZE: u64 = 1_125_899_906_842_624;
 
-// A volume's place in its host, as its header and the host's size tell it. Document 01's names
-// stand behind those that differ. A caller may make one up: nothing is assumed of the numbers.
+// A volume's place in its host, as its header and the host's size tell it (RULES.md, Opening), with
+// the rules' letters behind the names. A caller may make one up: nothing is assumed of the numbers.
 pub struct Layout {
     pub host_size: u64, // S
     pub kind: u64, // 0 standard, 1 hidden
-    pub magic: u64, // the mark: 0 VERA, 1 TRUE
+    pub magic: u64, // 0 VERA, 1 TRUE
     pub version: u64,
-    pub min_program_version: u64, // the least program version
+    pub min_program_version: u64,
     pub data_start: u64, // O
     pub data_size: u64, // V
-    pub candidate: u64, // the index of the trial
+    pub candidate: u64, // the accepted one's index
 }
 
-// A layout, or document 01's refusal number.
+// A layout, or a refusal number.
 pub enum Opened {
     Accepted(Layout),
     Refused(u8),

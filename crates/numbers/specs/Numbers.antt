@@ -1,4 +1,4 @@
--- Numbers of any count of bytes, in either order: what the contracts of `numbers`, and every field above it, cite. Assumes nothing.
+-- Numbers of any count of bytes, in either order (RULES.md, Header bytes): what the contracts of `numbers`, and every field above it, cite. Assumes nothing.
 use Prim.Native.Nat.{ℕ, zero, suc, _+_, _*_, _/_, _%_, _^_, _≤_}
 use mathlib.Core.Path.{_≡_}
 use mathlib.Core.List.{List, [], _∷_}

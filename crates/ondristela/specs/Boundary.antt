@@ -1,5 +1,5 @@
 -- Layouts and views as numbers, and what each answer leaves in the numbers or bytes passed for it: what the contracts of
--- `ondristela` cite, beside the definitions of the calls below it. Assumes nothing.
+-- `ondristela` cite (RULES.md, Boundary), beside the definitions of the calls below it. Assumes nothing.
 use Prim.Native.Nat.{ℕ}
 use mathlib.Core.Path.{_≡_}
 use mathlib.Core.Bool.{not, cond}

@@ -1,4 +1,4 @@
--- Where a header is read (document 01, "Places where a header is read"): what the contract of `locate` cites. Assumes nothing.
+-- Where a header is read (RULES.md, Header locations): what the contract of `locate` cites. Assumes nothing.
 use Prim.Native.Nat.{ℕ, _-_}
 use mathlib.Core.Bool.{Bool, cond}
 use mathlib.Core.List.{List, [], _∷_}
@@ -24,7 +24,7 @@ locations =
 unfoldable pub locationOf : ℕ → Location
 locationOf code = getD locations code (record { distance = 0; origin = HostStart; kind = standard })
 
--- document 01's rule for a code: not above 3
+-- the rule for a code: not above 3
 unfoldable pub codeRule : ℕ → Bool
 codeRule code = leb code 3
 
@@ -40,7 +40,7 @@ located code hostSize =
     (cond (hostSizeRule hostSize) (At (offsetFrom (locationOf code .origin) hostSize (locationOf code .distance))) (Refused 3))
     (Refused 2)
 
--- document 01's refusal number of a location; 0 for an acceptance is our own convention
+-- the refusal number of a location; 0 for an acceptance is our own convention
 unfoldable pub locatedNumber : Located → ℕ
 locatedNumber (At offset) = 0
 locatedNumber (Refused number) = number

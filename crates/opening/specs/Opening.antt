@@ -1,4 +1,4 @@
--- Opening (document 01): the tests before any candidate, the search in order, and the key bytes.
+-- Opening (RULES.md, Opening): the tests before any candidate, the search in order, and the key bytes.
 -- What the contracts of `open` and `key_bytes` cite. Assumes nothing.
 use Prim.Native.Nat.{ℕ, suc, _+_, _*_}
 use mathlib.Core.Path.{_≡_}
@@ -17,7 +17,7 @@ use Rattle.opening.specs.Locations.{codeRule, locationOf}
 abbrev pub maxCandidates : ℕ
 maxCandidates = 64
 
--- the lengths: n codes for n candidates of 512 bytes (document 01's trials), n from 1 to 64
+-- the lengths: n codes for n candidates of 512 bytes (the lab's "trials"), n from 1 to 64
 unfoldable pub lengthsRule : List ℕ → List ℕ → Bool
 lengthsRule candidates codes =
     leb 1 (length codes) && leb (length codes) maxCandidates && eqb (length candidates) (length codes * headerBytes)

@@ -24,7 +24,7 @@ pub enum Origin {
     HostEnd,
 }
 
-// Where a header is read (document 01's place), and the kind of volume that it makes.
+// A header location (RULES.md, Header locations), and the kind of volume that a header there makes.
 pub struct Location {
     pub distance: u64,
     pub origin: Origin,
@@ -55,7 +55,7 @@ const LOCATIONS: [Location; 4] = [
     },
 ];
 
-// A header's offset in the host, or document 01's refusal number.
+// A header's offset in the host, or a refusal number.
 pub enum Located {
     At(u64),
     Refused(u8),
@@ -83,8 +83,8 @@ pub fn locate(code: u8, host_size: u64) -> Located
 }
 
 // Opens a volume: candidates holds deciphered headers of 512 bytes, codes a location code for each.
-// The first candidate that is accepted gives the layout. Where none is, the refusal is that of the
-// first that is a header, or 4.
+// The first candidate that is accepted gives the layout. Without one the first header gives the
+// refusal, and without a header it is 4.
 pub fn open(candidates: &[u8], codes: &[u8], host_size: u64) -> Opened
     ensures { λ r. ⌜ r ≡ opened (now (candidates .entry)) (now (codes .entry)) «host_size» ⌝ }
 {

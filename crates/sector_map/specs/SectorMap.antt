@@ -1,4 +1,4 @@
--- The sector map (document 01, "Sector map"): user sectors, host sectors and tweaks of a layout. Sectors have 512 bytes.
+-- The sector map (RULES.md, Sector map): user sectors, host sectors and tweaks of a layout. Sectors have 512 bytes.
 -- What the contracts of `sector_map` cite. Assumes nothing.
 use Prim.Native.Nat.{ℕ, _+_, _-_, _/_}
 use mathlib.Core.Bool.{_&&_, cond}
@@ -30,18 +30,18 @@ unfoldable pub hostSector : Layout → ℕ → Mapped
 hostSector layout user =
     cond (sound layout) (cond (ltb user (sectors layout)) (Number (firstSector layout + user)) (Refused 16)) (Refused 11)
 
--- back: the user sector of a host sector of the data area
+-- the way back: the user sector that a host sector holds, if the data area has it
 unfoldable pub userSector : Layout → ℕ → Mapped
 userSector layout host =
     cond (sound layout)
     (cond (leb (firstSector layout) host && ltb host (firstSector layout + sectors layout)) (Number (host - firstSector layout)) (Refused 16))
     (Refused 11)
 
--- the tweak number of a user sector: its host sector number, counted from the host's start, for hidden volumes too
+-- the tweak number of a user sector: its host sector's, which counts from the first sector of the host in a hidden volume as well
 unfoldable pub tweakNumber : Layout → ℕ → Mapped
 tweakNumber layout user = hostSector layout user
 
--- the tweak block of a tweak number: the number little-endian in the first 8 bytes, then zeros; on a refusal sixteen zeros
+-- the tweak block of a tweak number: its 8 bytes, the least significant first, and 8 zeros; on a refusal sixteen zeros
 unfoldable pub blockOf : Mapped → List ℕ
 blockOf (Number number) = littleEndianBytes 8 number ++ replicate 8 0
 blockOf (Refused number) = replicate 16 0
@@ -50,7 +50,7 @@ blockOf (Refused number) = replicate 16 0
 unfoldable pub tweakOf : Layout → ℕ → Tweak
 tweakOf layout user = record { number = tweakNumber layout user; block = blockOf (tweakNumber layout user) }
 
--- document 01's refusal number of an answer; 0 for a number is our own convention
+-- the refusal number of an answer; 0 for a number is our own convention
 unfoldable pub mappedRefusal : Mapped → ℕ
 mappedRefusal (Number number) = 0
 mappedRefusal (Refused number) = number

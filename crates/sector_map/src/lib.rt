@@ -7,7 +7,7 @@ ghost use Rattle.sector_map.specs.SectorMap.{sectorCount, hostSector, us
 use layout::Layout;
 use layout::SECTOR_SIZE;
 
-// A sector's or a tweak's number, or document 01's refusal number.
+// A sector's or a tweak's number, or a refusal number.
 pub enum Mapped {
     Number(u64),
     Refused(u8),

@@ -1,4 +1,4 @@
--- Reads and writes on a view: the order of checks, and what an accepted or refused call leaves (document 01's table of refusals).
+-- Reads and writes on a view: the order of checks, and what an accepted or refused call leaves (RULES.md, Reads and writes).
 -- Refusals depend on lengths and numbers alone. What the contracts of `read` and `write` cite. Assumes nothing.
 use Prim.Native.Nat.{ℕ, _+_, _*_}
 use mathlib.Core.Path.{_≡_}
@@ -54,7 +54,7 @@ writeNumber view imageSize first count bufferSize =
 unfoldable pub answered : ℕ → Answer
 answered number = cond (eqb number 0) Accepted (Refused number)
 
--- document 01's refusal number of an answer; 0 for an acceptance is our own convention
+-- the refusal number of an answer; 0 for an acceptance is our own convention
 unfoldable pub answerNumber : Answer → ℕ
 answerNumber Accepted = 0
 answerNumber (Refused number) = number

@@ -1,4 +1,4 @@
--- Views (document 01, "Views and the lock"): when one is sound, and how one is made. What the contracts of `plain` and `protected` cite. Assumes nothing.
+-- Views (RULES.md, Views): when one is sound, and how one is made. What the contracts of `plain` and `protected` cite. Assumes nothing.
 use Prim.Native.Nat.{ℕ, _+_, _%_}
 use mathlib.Core.Bool.{Bool, true, false, _&&_, cond}
 use lib.Dec.{leb, ltb, eqb}
@@ -15,7 +15,7 @@ use Rattle.view.specs.declared.Viewed.the-variants.{Made, Refused}
 unfoldable pub areaEnd : Layout → ℕ
 areaEnd layout = layout .«data_start» + layout .«data_size»
 
--- a protected range, if any, lies on 512-byte boundaries inside a standard volume's data area and isn't empty
+-- what a view may protect: nothing, or one or more whole sectors of the data area of a standard volume
 unfoldable pub protectionRule : Layout → Protection → Bool
 protectionRule layout Unprotected = true
 protectionRule layout (Protected first end) =
@@ -35,22 +35,22 @@ unfoldable pub protectedOf : Layout → Layout → Bool → View
 protectedOf outer inner locked =
     record { layout = outer; protection = Protected (inner .«data_start») (areaEnd inner); locked = locked }
 
--- a plain view is made from any sound layout, its lock open
+-- a sound layout gives a plain view, its lock open
 unfoldable pub plainView : Layout → Viewed
 plainView layout = cond (sound layout) (Made (plainOf layout false)) (Refused 11)
 
--- a pair nests: the first standard, the second hidden, S equal, and the hidden data area inside the outer's
+-- a pair nests: a standard layout and a hidden one with the same S, whose data area does not reach out of the first's
 unfoldable pub nests : Layout → Layout → Bool
 nests outer inner =
     eqb (outer .kind) standard && eqb (inner .kind) hidden && eqb (outer .«host_size») (inner .«host_size»)
     && leb (outer .«data_start») (inner .«data_start») && leb (areaEnd inner) (areaEnd outer)
 
--- a protected view is made from an outer and a hidden layout that are sound and nest, its lock open
+-- two sound layouts that nest give a protected view, its lock open
 unfoldable pub protectedView : Layout → Layout → Viewed
 protectedView outer inner =
     cond (sound outer && sound inner) (cond (nests outer inner) (Made (protectedOf outer inner false)) (Refused 12)) (Refused 11)
 
--- document 01's refusal number of a view's making; 0 for a view is our own convention
+-- the refusal number of a view's making; 0 for a view is our own convention
 unfoldable pub viewedRefusal : Viewed → ℕ
 viewedRefusal (Made view) = 0
 viewedRefusal (Refused number) = number

@@ -34,7 +34,7 @@ pub struct View {
     pub locked: bool,
 }
 
-// A view, or document 01's refusal number.
+// A view, or a refusal number.
 pub enum Viewed {
     Made(View),
     Refused(u8),

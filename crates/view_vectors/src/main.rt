@@ -21,7 +21,7 @@ const MADE_UP: u64 = 2;
 
 const READ: u64 = 3;
 
-// Document 01's image, and a byte more, so that it can be passed too long.
+// An image of the worked cases' host, and a byte more, so that it can be passed too long.
 const SPACE: usize = 1_048_577;
 
 // 130 sectors: more than a call may move.

@@ -1,4 +1,4 @@
-//! A straightforward program for the same work: document 01's opening, as one would write it in Rust.
+//! A straightforward program for the same work: opening (docs/RULES.md), as one would write it in Rust.
 
 use crate::byte_table::crc32;
 
@@ -29,7 +29,7 @@ pub struct Layout {
     pub candidate: usize,
 }
 
-/// The layout of the first candidate that is accepted, or document 01's refusal number.
+/// The layout of the first candidate that is accepted, or the refusal number.
 pub fn open(candidates: &[u8], codes: &[u8], host_size: u64) -> Result<Layout, u8> {
     if codes.is_empty() || codes.len() > 64 || candidates.len() != codes.len() * HEADER_SIZE {
         return Err(1);

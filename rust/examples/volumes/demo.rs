@@ -24,7 +24,7 @@ pub fn run(folder: &Path) -> Result<String, Problem> {
     Ok(format!("{}{shown}\n{told}", sample::made()))
 }
 
-// The outer writes are document 01's cases of M protecting N: outer sector 1,023 is the last before N.
+// The outer writes are worked cases of docs/RULES.md, M protecting N: outer sector 1,023 is the last before N.
 fn tour(volumes: &mut Volumes, image: &mut [u8]) -> String {
     let Volumes { outer, hidden } = volumes;
     let start = Extent { first: 0, count: 1 };

@@ -14,7 +14,7 @@ pub struct Fields {
     key_byte: u8,
 }
 
-/// Document 01's volumes M and N.
+/// The volumes M and N of docs/RULES.md.
 pub const HEADERS: [Fields; 2] = [
     Fields {
         location: Location::Standard,

@@ -1,4 +1,4 @@
-//! A sample to work on: document 01's volume M, with N hidden in it.
+//! A sample to work on: the volume M of docs/RULES.md, with N hidden in it.
 
 use std::fs::{self, File, OpenOptions};
 use std::io::{self, Write};

@@ -1,4 +1,4 @@
-//! Views, and reads and writes on them (document 01, "Views and the lock").
+//! Views, and reads and writes on them (docs/RULES.md, Views, Reads and writes).
 
 use std::ops::Range;
 
@@ -40,7 +40,7 @@ impl View {
         self.layout.is_sound() && (self.protected == 0 || self.range_is_sound())
     }
 
-    /// "On 512-byte boundaries inside a standard volume's data area and isn't empty."
+    /// One or more whole sectors of the data area of a standard volume.
     fn range_is_sound(&self) -> bool {
         self.layout.kind == STANDARD
             && self.protected_start % SECTOR == 0
@@ -89,7 +89,7 @@ fn nests(outer: &Layout, hidden: &Layout) -> bool {
         && hidden.data_end() <= outer.data_end()
 }
 
-/// "Order of checks: 11, 13, 14, 15, 16": what reads and writes share. 0 where none refuses.
+/// The checks that reads and writes share, in order. 0 where none refuses.
 pub fn refusal(view: &View, image_size: usize, extent: Extent, buffer_size: usize) -> u64 {
     if !view.is_sound() {
         return 11;
@@ -109,7 +109,7 @@ pub fn refusal(view: &View, image_size: usize, extent: Extent, buffer_size: usiz
     0
 }
 
-/// "And for writes 17, 18."
+/// The checks of a write: those, then 17 and 18.
 pub fn write_refusal(view: &View, image_size: usize, extent: Extent, buffer_size: usize) -> u64 {
     let shared = refusal(view, image_size, extent, buffer_size);
     if shared != 0 {
@@ -136,7 +136,7 @@ fn bytes_of(host: u64) -> Range<usize> {
     start..start + SECTOR as usize
 }
 
-/// An accepted read copies the covered sectors, in order, into the buffer.
+/// Where a read is accepted, the buffer is filled with the covered sectors, one after the other.
 pub fn read(view: &View, image: &[u8], extent: Extent, buffer: &mut [u8]) -> u64 {
     let answer = refusal(view, image.len(), extent, buffer.len());
     if answer == 0 {

@@ -1,4 +1,4 @@
-//! CRC-32 of ITU-T V.42, bit by bit (document 01, "The 512 header bytes").
+//! CRC-32 of ITU-T V.42, bit by bit (docs/RULES.md, Header bytes).
 
 const REFLECTED_POLYNOMIAL: u32 = 0xEDB8_8320;
 

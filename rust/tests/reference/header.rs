@@ -1,5 +1,5 @@
-//! One candidate: its fields, whether it is a header, and the first line that it fails (document 01,
-//! "The 512 header bytes").
+//! One candidate: its fields, whether it is a header, and the first line that it fails (docs/RULES.md,
+//! Header bytes).
 
 use std::ops::Range;
 
@@ -57,7 +57,7 @@ pub fn is_header(candidate: &[u8]) -> bool {
         && u64::from(crc32(&candidate[CHECKED])) == field(candidate, HEADER_CHECKSUM)
 }
 
-/// "A header is accepted when these hold, tested in this order": the number of the first line that fails.
+/// The six lines of an accepted header, in their order: the number of the first that fails.
 pub fn first_failing_line(candidate: &[u8], kind: u64, host_size: u64) -> Option<u64> {
     let lines = [
         (5, version_holds(candidate)),
@@ -105,7 +105,7 @@ fn data_area_holds(candidate: &[u8], kind: u64, host_size: u64) -> bool {
     )
 }
 
-/// "A layout tells": what an accepted candidate gives.
+/// What an accepted candidate tells.
 pub fn layout(candidate: &[u8], kind: u64, host_size: u64, index: usize) -> Layout {
     Layout {
         host_size,

@@ -1,4 +1,4 @@
-//! Header bytes made from fields, with both checksums (document 01, "The 512 header bytes").
+//! Header bytes made from fields, with both checksums (docs/RULES.md, Header bytes).
 
 use std::ops::Range;
 

@@ -1,4 +1,4 @@
-//! Layouts, and when one is sound (document 01, "Opening", "The 512 header bytes", "Views and the lock").
+//! Layouts, and when one is sound (docs/RULES.md, Opening, Header bytes and Views).
 
 pub const SECTOR: u64 = 512;
 pub const STANDARD: u64 = 0;
@@ -41,7 +41,7 @@ impl Layout {
         ]
     }
 
-    /// "Sound means": the host-size rule and the data-area rule, the encrypted size taken as the data size.
+    /// Sound: the host-size rule and the data-area rule hold, the encrypted size taken as the data size.
     pub fn is_sound(&self) -> bool {
         self.kind <= HIDDEN
             && host_size_allowed(self.host_size)
@@ -57,12 +57,12 @@ impl Layout {
     }
 }
 
-/// "Opening": the rule for the host's size.
+/// The rule for the host's size.
 pub fn host_size_allowed(host_size: u64) -> bool {
     host_size % SECTOR == 0 && (MIN_HOST_SIZE..=MAX_HOST_SIZE).contains(&host_size)
 }
 
-/// "A header is accepted when", the last line. The sums are whole numbers: they never wrap.
+/// The last line of an accepted header. The sums are whole numbers: they never wrap.
 pub fn data_area_allowed(
     kind: u64,
     data_start: u64,

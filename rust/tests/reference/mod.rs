@@ -1,5 +1,5 @@
-//! An implementation of document 01, written from its text alone and as plainly as it is written there, for
-//! the library to be compared with. Refusals are document 01's numbers.
+//! A second implementation of the rules (docs/RULES.md), written from their text alone and as plainly, for
+//! the library to be compared with. Refusals are the rules' numbers.
 
 // Each test file uses a part of it.
 #![allow(dead_code)]

@@ -1,4 +1,4 @@
-//! The reference model of two views on one image (document 01, "Demand 3 as one claim").
+//! The reference model of two views on one image (docs/RULES.md, Interleavings).
 //! It keeps its own copy of the image and its own views, and sees nothing of the library's.
 
 use super::access::{read, write, Extent, View};

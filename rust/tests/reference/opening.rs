@@ -1,5 +1,4 @@
-//! Header locations, and the search over the candidates (document 01, "Places where a header is read" and
-//! "Opening").
+//! Header locations, and the search over the candidates (docs/RULES.md, Header locations and Opening).
 
 use super::header::{first_failing_line, is_header, layout, HEADER_SIZE, KEYS};
 use super::layout::{host_size_allowed, Layout, HIDDEN, STANDARD};
@@ -16,7 +15,7 @@ pub fn location(code: u8, host_size: u64) -> Result<u64, u64> {
     Ok(offsets[usize::from(code)])
 }
 
-/// "Codes 0 and 2 make a standard volume, 1 and 3 a hidden one."
+/// A header at an even code makes a standard volume, at an odd one a hidden volume.
 pub fn kind_of_code(code: u8) -> u64 {
     match code {
         0 | 2 => STANDARD,

@@ -1,4 +1,4 @@
-//! The map between a volume's sectors and the host's (document 01, "Sector map"). Each call tests 11, then 16.
+//! The map between a volume's sectors and the host's (docs/RULES.md, Sector map). Each call tests 11, then 16.
 
 use super::layout::{Layout, SECTOR};
 
@@ -26,7 +26,7 @@ pub fn user_sector(layout: &Layout, host: u64) -> Result<u64, u64> {
     Ok(host - first)
 }
 
-/// The tweak block: the host sector's number little-endian in the first 8 bytes, then zeros.
+/// The tweak block: the 8 bytes of the host sector's number, the least significant first, then 8 zeros.
 pub fn tweak_block(layout: &Layout, user: u64) -> Result<[u8; 16], u64> {
     let mut number = host_sector(layout, user)?;
     let mut block = [0; 16];
