@@ -253,7 +253,7 @@ uint64_t ondristela_write(struct ondristela_view *view, uint8_t *image, size_t i
                           uint64_t count, const uint8_t *buffer, size_t buffer_size);
 
 /* CRC-32 of ITU-T V.42, the checksum in headers: 0xCBF43926 for the nine bytes "123456789". */
-uint32_t ondristela_crc32(const uint8_t *bytes, size_t size);
+uint32_t ondristela_crc32(const uint8_t *bytes, size_t bytes_size);
 
 #ifdef __cplusplus
 }

@@ -28,7 +28,7 @@ mod library {
         pub fn ondristela_view_protected(outer: *const LayoutNumbers, hidden: *const LayoutNumbers, view: *mut ViewNumbers) -> u64;
         pub fn ondristela_read(view: *const ViewNumbers, image: *const u8, image_size: usize, first: u64, count: u64, buffer: *mut u8, buffer_size: usize) -> u64;
         pub fn ondristela_write(view: *mut ViewNumbers, image: *mut u8, image_size: usize, first: u64, count: u64, buffer: *const u8, buffer_size: usize) -> u64;
-        pub fn ondristela_crc32(bytes: *const u8, size: usize) -> u32;
+        pub fn ondristela_crc32(bytes: *const u8, bytes_size: usize) -> u32;
     }
 }
 
