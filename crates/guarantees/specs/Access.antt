@@ -1,4 +1,4 @@
--- Reads and writes on any view, made-up ones too (RULES.md, "Reads and writes"): 11 exactly for an unsound view, and else the table of
+-- Reads and writes on any view, made-up ones too (RULES.md, Reads and writes): 11 exactly for an unsound view, and else the table of
 -- refusals, with 18 over the host sectors that the map gives; and what each call leaves, sector by sector. `readNumber`, `writeNumber`,
 -- `filledBy`, `writtenBy`, `ReadPost` and `WritePost` are the definitions that the contracts of `view` and `ondristela` cite. Assumes nothing.
 use Prim.Native.Nat.{ℕ, _*_}

@@ -1,4 +1,4 @@
--- The 512 header bytes (RULES.md, "Header bytes"): when a candidate is a header, the six lines that an accepted one keeps, and what its
+-- The 512 header bytes (RULES.md, Header bytes): when a candidate is a header, the six lines that an accepted one keeps, and what its
 -- layout tells. Stated over the bytes at their offsets, apart from the definitions that the contracts cite. Assumes nothing.
 use Prim.Native.Nat.{ℕ, _+_, _/_, _%_, _≤_, _<_}
 use mathlib.Core.Path.{_≡_}

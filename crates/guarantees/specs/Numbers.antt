@@ -1,4 +1,4 @@
--- Numbers of any count of bytes, and CRC-32 (RULES.md, "Numbers and checksums"): laws that fix them, stated apart from their definitions,
+-- Numbers of any count of bytes, and CRC-32 (RULES.md, Fields and CRC-32): laws that fix them, stated apart from their definitions,
 -- which the contracts of `numbers` and `crc32` cite and every other claim uses. Assumes nothing.
 use Prim.Native.Nat.{ℕ, _+_, _*_, _/_, _%_, _^_, _≤_, _<_}
 use mathlib.Core.Path.{_≡_}

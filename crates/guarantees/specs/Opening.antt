@@ -1,4 +1,4 @@
--- Demand 2, first half (RULES.md, "Opening"): a volume opens exactly when some candidate is a header that keeps every line.
+-- Demand 2, first half (RULES.md, Opening): a volume opens exactly when some candidate is a header that keeps every line.
 -- `opened` is the definition that the contract of `opening::open` cites; the rules are stated apart from it. Assumes nothing.
 use Prim.Native.Nat.{ℕ, _-_, _*_, _%_, _^_, _≤_, _<_}
 use mathlib.Core.Path.{_≡_}

@@ -1,4 +1,4 @@
--- The reference model of reads and writes (document 01's "slate"; RULES.md, "Demand 3"): it judges by the table of refusals and moves data
+-- The reference model of reads and writes (RULES.md, The reference model): it judges by the table of refusals and moves data
 -- sector by sector over the sector map. It begins with the image, two layouts and two locks, and is shown nothing of what the code returns.
 -- Assumes nothing.
 use Prim.Native.Nat.{ℕ}

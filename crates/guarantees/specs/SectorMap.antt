@@ -1,4 +1,4 @@
--- Demand 2, second half (RULES.md, "Sector map"): a volume's user sectors match the host sectors of its data area one to one, outside every
+-- Demand 2, second half (RULES.md, Sector map): a volume's user sectors match the host sectors of its data area one to one, outside every
 -- header area, and each has its tweak.
 -- `hostSector`, `userSector`, `tweakNumber` and `tweakOf` are the definitions that the contracts of `sector_map` cite. Assumes nothing.
 use Prim.Native.Nat.{ℕ, _+_, _-_, _*_, _/_, _≤_, _<_}

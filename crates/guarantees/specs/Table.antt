@@ -1,4 +1,4 @@
--- Reads and writes on a sound view (RULES.md, "Reads and writes"): the table of refusals, and what a call moves, sector by sector over the
+-- Reads and writes on a sound view (RULES.md, Reads and writes): the table of refusals, and what a call moves, sector by sector over the
 -- sector map. The reference model and the claim about any view share these definitions. Assumes nothing.
 use Prim.Native.Nat.{ℕ, zero, suc, _+_, _*_, _/_}
 use mathlib.Core.Bool.{Bool, true, not, cond}

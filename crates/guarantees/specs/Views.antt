@@ -1,4 +1,4 @@
--- Views (RULES.md, "Views"): when one is sound, from which layouts one is made, and what it then is, field by field.
+-- Views (RULES.md, Views): when one is sound, from which layouts one is made, and what it then is, field by field.
 -- `plainView` and `protectedView` are the definitions that the contracts of `view::plain` and `view::protected` cite. Assumes nothing.
 use Prim.Native.Nat.{ℕ, _+_, _%_, _≤_, _<_}
 use mathlib.Core.Path.{_≡_}
