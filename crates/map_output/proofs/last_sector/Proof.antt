@@ -1,0 +1,24 @@
+-- `map_output::last_sector` meets its contract.
+-- Assumes nothing.
+use borrow.Author.Needs.{needs}
+use Rattle.sector_map.specs.SectorMap.{sectors, firstSector}
+use Rattle.map_output.specs.MapOutput.{lastSector}
+use Rattle.map_output.proofs.last_sector.Statement.{statement}
+use Rattle.map_output.proofs.last_sector.Tie as tie
+
+sub-result : tie.Need-sub-result
+sub-result c = search needs
+
+add-result : tie.Need-add-result
+add-result c = search needs
+
+returns : tie.Need-returns
+unfolding lastSector sectors firstSector
+returns c = search needs
+
+returns-2 : tie.Need-returns-2
+unfolding lastSector sectors firstSector
+returns-2 c = search needs
+
+pub last-sector-spec : {M : Type 1} → statement M
+last-sector-spec = tie.close (tie.spec sub-result add-result returns returns-2)

@@ -1,0 +1,29 @@
+-- `map_output::layout_lines` meets its contract.
+-- Assumes nothing.
+use native.Mathlib.Omega.{arith}
+use Rattle.map_output.specs.MapOutput.{layoutLines}
+use Rattle.map_output.proofs.WrittenLaws.{written-append, written-first}
+use borrow.Author.Needs.{needs}
+use Rattle.map_output.proofs.layout_lines.Statement.{statement}
+use Rattle.map_output.proofs.layout_lines.Tie as tie
+
+put-header-requires : tie.Need-put-header-requires
+put-header-requires c κs = search needs
+
+put-area-requires : tie.Need-put-area-requires
+put-area-requires c κs = search needs
+
+put-sectors-requires : tie.Need-put-sectors-requires
+put-sectors-requires c κs = search needs
+
+returns : tie.Need-returns
+unfolding layoutLines
+returns c =
+    let header = c .before .before .before .before .put-header .ensures in
+    let area = c .before .before .put-area .ensures in
+    let sectors = c .put-sectors .ensures in
+    written-first (omega arith) (written-append (omega arith) (written-append (omega arith) header area) sectors)
+
+pub layout-lines-spec : {M : Type 1} → statement M
+layout-lines-spec =
+    tie.close (tie.spec put-header-requires put-area-requires put-sectors-requires returns)

@@ -1,0 +1,55 @@
+-- `map_output::put_area` meets its contract.
+-- Assumes nothing.
+use native.Mathlib.Omega.{arith}
+use Rattle.map_output.specs.MapOutput.{areaLines}
+use Rattle.map_output.proofs.WrittenLaws.{written-append}
+use borrow.Author.Needs.{needs}
+use Rattle.map_output.proofs.put_area.Statement.{statement}
+use Rattle.map_output.proofs.put_area.Tie as tie
+
+put-kind-requires : tie.Need-put-kind-requires
+put-kind-requires c κs = search needs
+
+slice-aggregate-put-number : tie.Need-slice-aggregate-put-number
+slice-aggregate-put-number c = search needs
+
+put-number-requires : tie.Need-put-number-requires
+put-number-requires c κs = search needs
+
+slice-aggregate-put-number-2 : tie.Need-slice-aggregate-put-number-2
+slice-aggregate-put-number-2 c = search needs
+
+put-number-requires-2 : tie.Need-put-number-requires-2
+put-number-requires-2 c κs = search needs
+
+slice-aggregate-put-number-3 : tie.Need-slice-aggregate-put-number-3
+slice-aggregate-put-number-3 c = search needs
+
+put-number-requires-3 : tie.Need-put-number-requires-3
+put-number-requires-3 c κs = search needs
+
+same-length : tie.Need-same-length
+same-length c = search needs
+
+returns : tie.Need-returns
+unfolding areaLines
+returns c =
+    let kind = c .before .before .before .before .before .before .before .before .before .before .before .before .before .before .before .before .before .put-kind .ensures in
+    let host = c .before .before .before .before .before .before .before .before .before .before .before .before .put-number .ensures in
+    let start = c .before .before .before .before .before .before .before .put-number2 .ensures in
+    let size = c .before .before .put-number3 .ensures in
+    written-append (omega arith) (written-append (omega arith) (written-append (omega arith) kind host) start) size
+
+pub put-area-spec : {M : Type 1} → statement M
+put-area-spec =
+    tie.close
+    (tie.spec
+    put-kind-requires
+    slice-aggregate-put-number
+    put-number-requires
+    slice-aggregate-put-number-2
+    put-number-requires-2
+    slice-aggregate-put-number-3
+    put-number-requires-3
+    same-length
+    returns)

@@ -1,0 +1,51 @@
+-- `map_output::put_number` meets its contract.
+-- Assumes nothing.
+use Prim.Native.Nat.{ℕ, _-_, _≤_}
+use mathlib.Core.List.{List}
+use mathlib.Core.Path.{_≡_}
+use native.Mathlib.Omega.{arith}
+use lib.ListN.{length, take, drop, length-drop}
+use lib.Seq.{take-all}
+use Rattle.map_output.specs.MapOutput.{numberLine}
+use borrow.Author.Needs.{needs}
+use Rattle.map_output.proofs.put_number.Statement.{statement}
+use Rattle.map_output.proofs.put_number.Tie as tie
+
+decimal-requires : tie.Need-decimal-requires
+decimal-requires c κs = search needs
+
+sub-put-line : tie.Need-sub-put-line
+sub-put-line c = search needs
+
+part-put-line-start : tie.Need-part-put-line-start
+part-put-line-start c = search needs
+
+part-put-line-end : tie.Need-part-put-line-end
+part-put-line-end c = search needs
+
+put-line-requires : tie.Need-put-line-requires
+put-line-requires c κs = search needs
+
+same-length : tie.Need-same-length
+same-length c = search needs
+
+returns : tie.Need-returns
+unfolding numberLine
+returns c =
+    let d = c .before .before .before .before .before .before .decimal in
+    let bytes : List ℕ = d .last .1 .0 in
+    let rest : length (drop (d .result) bytes) ≤ 20 - d .result = simp length-drop (omega (arith, d .ensures .size)) in
+    let whole : take (20 - d .result) (drop (d .result) bytes) ≡ drop (d .result) bytes = take-all _ _ rest in
+    rw (← d .ensures .content, ← whole) (c .before .before .put-line .ensures)
+
+pub put-number-spec : {M : Type 1} → statement M
+put-number-spec =
+    tie.close
+    (tie.spec
+    decimal-requires
+    sub-put-line
+    part-put-line-start
+    part-put-line-end
+    put-line-requires
+    same-length
+    returns)
