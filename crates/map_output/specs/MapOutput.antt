@@ -9,6 +9,7 @@ use Rattle.layout.specs.Rules.{hidden}
 use Rattle.layout.specs.declared.Layout.{Layout}
 use Rattle.header.specs.Header.{vera, veraMagic, trueMagic}
 use Rattle.sector_map.specs.SectorMap.{sectors, firstSector}
+use Rattle.map_output.specs.Ascii.{ascii}
 use Rattle.map_output.specs.Decimal.{decimal}
 
 -- a line: a label, a space, a value and a line feed
@@ -19,49 +20,47 @@ line label value = label ++ (32 ∷ []) ++ value ++ (10 ∷ [])
 unfoldable pub numberLine : List ℕ → ℕ → List ℕ
 numberLine label number = line label (decimal number)
 
--- "mark", and VERA for that magic, TRUE for any other
+-- the mark: VERA for that magic, TRUE for any other
 unfoldable pub magicLine : ℕ → List ℕ
-magicLine magic = line (109 ∷ 97 ∷ 114 ∷ 107 ∷ []) (cond (eqb magic vera) veraMagic trueMagic)
+magicLine magic = line (ascii "mark") (cond (eqb magic vera) veraMagic trueMagic)
 
--- "kind", and "hidden" for that kind, "standard" for any other
+-- the kind: hidden for that kind, standard for any other
 unfoldable pub kindLine : ℕ → List ℕ
-kindLine kind =
-    line (107 ∷ 105 ∷ 110 ∷ 100 ∷ [])
-    (cond (eqb kind hidden) (104 ∷ 105 ∷ 100 ∷ 100 ∷ 101 ∷ 110 ∷ []) (115 ∷ 116 ∷ 97 ∷ 110 ∷ 100 ∷ 97 ∷ 114 ∷ 100 ∷ []))
+kindLine kind = line (ascii "kind") (cond (eqb kind hidden) (ascii "hidden") (ascii "standard"))
 
--- what the header says of itself: "mark", "version", "needs"
+-- what the header says of itself
 unfoldable pub headerLines : Layout → List ℕ
 headerLines layout =
     magicLine (layout .magic)
-    ++ numberLine (118 ∷ 101 ∷ 114 ∷ 115 ∷ 105 ∷ 111 ∷ 110 ∷ []) (layout .version)
-    ++ numberLine (110 ∷ 101 ∷ 101 ∷ 100 ∷ 115 ∷ []) (layout .«min_program_version»)
+    ++ numberLine (ascii "version") (layout .version)
+    ++ numberLine (ascii "needs") (layout .«min_program_version»)
 
--- where the data area lies in its host, in bytes: "kind", "host", "start", "size"
+-- where the data area lies in its host, in bytes
 unfoldable pub areaLines : Layout → List ℕ
 areaLines layout =
     kindLine (layout .kind)
-    ++ numberLine (104 ∷ 111 ∷ 115 ∷ 116 ∷ []) (layout .«host_size»)
-    ++ numberLine (115 ∷ 116 ∷ 97 ∷ 114 ∷ 116 ∷ []) (layout .«data_start»)
-    ++ numberLine (115 ∷ 105 ∷ 122 ∷ 101 ∷ []) (layout .«data_size»)
+    ++ numberLine (ascii "host") (layout .«host_size»)
+    ++ numberLine (ascii "start") (layout .«data_start»)
+    ++ numberLine (ascii "size") (layout .«data_size»)
 
 -- the host sector of the last user sector; of no sectors, that of the first
 unfoldable pub lastSector : Layout → ℕ
 lastSector layout = firstSector layout + (sectors layout - 1)
 
--- the same in sectors: "sectors", "first", "last"
+-- the same in sectors of the host
 unfoldable pub sectorLines : Layout → List ℕ
 sectorLines layout =
-    numberLine (115 ∷ 101 ∷ 99 ∷ 116 ∷ 111 ∷ 114 ∷ 115 ∷ []) (sectors layout)
-    ++ numberLine (102 ∷ 105 ∷ 114 ∷ 115 ∷ 116 ∷ []) (firstSector layout)
-    ++ numberLine (108 ∷ 97 ∷ 115 ∷ 116 ∷ []) (lastSector layout)
+    numberLine (ascii "sectors") (sectors layout)
+    ++ numberLine (ascii "first") (firstSector layout)
+    ++ numberLine (ascii "last") (lastSector layout)
 
 -- the ten lines of a layout
 unfoldable pub layoutLines : Layout → List ℕ
 layoutLines layout = headerLines layout ++ areaLines layout ++ sectorLines layout
 
--- the one line of a refusal: "refused" and its number
+-- the one line of a refusal
 unfoldable pub refusalLine : ℕ → List ℕ
-refusalLine number = numberLine (114 ∷ 101 ∷ 102 ∷ 117 ∷ 115 ∷ 101 ∷ 100 ∷ []) number
+refusalLine number = numberLine (ascii "refused") number
 
 -- a buffer that a text was written to the start of: the count is the text's, and what stands behind it is left as it was.
 -- The last two parts follow, where the text fits: they are what a caller that lends the buffer's first count bytes has to show
