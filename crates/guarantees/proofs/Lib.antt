@@ -19,6 +19,7 @@ pub mod Judging
 pub mod LayLaws
 pub mod LineLaws
 pub mod MapLaws
+pub mod MapProgram
 pub mod ModelIndependent
 pub mod ModelLastWrite
 pub mod NestLaws

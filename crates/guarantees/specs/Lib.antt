@@ -6,6 +6,7 @@ pub mod FromHeaders
 pub mod Header
 pub mod Interleaving
 pub mod Judging
+pub mod MapProgram
 pub mod Numbers
 pub mod Opening
 pub mod ReferenceModel

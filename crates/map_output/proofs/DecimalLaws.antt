@@ -15,7 +15,7 @@ unfolding digits
 digits-none zero = refl
 digits-none (suc most) = refl
 
-digits-more : (most number : ℕ) → 0 < number → digits (suc most) number ≡ digits most (number / 10) ++ ((48 + number % 10) ∷ [])
+pub digits-more : (most number : ℕ) → 0 < number → digits (suc most) number ≡ digits most (number / 10) ++ ((48 + number % 10) ∷ [])
 unfolding digits
 digits-more most number h = rw (ne-eqb number 0 (λ e. omega arith))
 
