@@ -5,7 +5,7 @@ use native.Mathlib.Nat.{pow-suc, mod-lt, zero-lt-suc}
 use native.Mathlib.Omega.{arith}
 use mathlib.Core.Path.{_≡_, refl, sym, ap, _∙_}
 use mathlib.Core.List.{List, [], _∷_, _++_, append-assoc}
-use lib.ListN.{length, getD, take, drop, length-append, List·getD-append}
+use lib.ListN.{length, getD, drop, length-append, List·getD-append}
 use lib.Seq.{take-at, drop-at, take-all, drop-drop, getD-append-seam, take-append-seam, drop-append-seam}
 use borrow.Author.Tests.{eq-eqb, ne-eqb}
 use Rattle.numbers.specs.Numbers.{bigEndian}
@@ -18,8 +18,8 @@ use Rattle.map_input.specs.MapInput.{openedInput}
 use Rattle.map_output.specs.Ascii.{ascii}
 use Rattle.map_output.specs.Decimal.{digits, decimal}
 use Rattle.map_output.specs.MapOutput.{line, numberLine, magicLine, kindLine, headerLines, areaLines, sectorLines, lastSector}
-use Rattle.map_output.specs.MapOutput.{layoutLines, refusalLine, Rendered}
-use Rattle.map_output.proofs.DecimalLaws.{digits-none, digits-more}
+use Rattle.map_output.specs.MapOutput.{layoutLines, refusalLine}
+use Rattle.map_output.proofs.DecimalLaws.{digits-more}
 use Rattle.guarantees.specs.SectorMap.{Sound}
 use Rattle.guarantees.specs.WorkedCases.{volumeM}
 use Rattle.guarantees.specs.MapProgram.{ReadsInput, spelled, IsDecimal, MarkIs, vera, other, KindIs, hidden, standard}

@@ -16,7 +16,7 @@ use Rattle.map_output.specs.MapOutput.{layoutLines, refusalLine, Rendered}
 use Rattle.guarantees.specs.SectorMap.{Sound}
 use Rattle.guarantees.specs.WorkedCases.{volumeM}
 
--- the input: S as 8 bytes big-endian, one location code, a candidate of 512 bytes, and nothing more
+-- the input: eight bytes that spell S, the first the most significant, then a code and a candidate; any other length is refused 1
 pub record ReadsInput : Type 0 where
   pub opens : (size : List ℕ) (code : ℕ) (candidate : List ℕ) → length size ≡ 8 → length candidate ≡ 512
       → openedInput (size ++ (code ∷ candidate)) ≡ opened candidate (code ∷ []) (bigEndian size)

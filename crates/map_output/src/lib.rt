@@ -19,8 +19,8 @@ pub const SIZE: usize = 10 * LINE;
 // The digits of a number of 64 bits at most.
 const DIGITS: usize = 20;
 
-// Puts the ten lines of a layout at the start of out, and answers how many bytes they have. Made-up
-// layouts have their lines too.
+// Puts the ten lines of a layout at the start of out, and answers how many bytes they have. What
+// stands behind them is left as it was. Made-up layouts have their lines too.
 pub fn layout_lines(layout: Layout, out: &mut [u8; SIZE]) -> usize
     ensures { λ r. ⌜ Rendered (layoutLines layout) (now (out .entry)) (now (out .exit)) r ⌝ }
 {
@@ -29,7 +29,8 @@ pub fn layout_lines(layout: Layout, out: &mut [u8; SIZE]) -> usize
     put_sectors(out, sectors, layout)
 }
 
-// Puts the line of a refusal at the start of out, and answers how many bytes it has.
+// Puts the line of a refusal at the start of out, and answers how many bytes it has. What stands
+// behind it is left as it was.
 pub fn refusal_line(number: u8, out: &mut [u8; SIZE]) -> usize
     ensures { λ r. ⌜ Rendered (refusalLine number) (now (out .entry)) (now (out .exit)) r ⌝ }
 {
