@@ -8,6 +8,7 @@ pub mod BoundaryZero
 pub mod CandidateLaws
 pub mod CheckLaws
 pub mod CoversLaws
+pub mod DecimalLaws
 pub mod ExtentLaws
 pub mod FoundLaws
 pub mod FromHeaders

@@ -1,12 +1,11 @@
 -- The map program opens the candidate of its input, and prints the ten lines of a layout or the one of a refusal, byte for byte.
 -- Assumes nothing.
-use Prim.Native.Nat.{ℕ, zero, suc, _+_, _-_, _*_, _/_, _%_, _^_, _≤_, _<_}
-use native.Mathlib.Nat.{pow-suc, mod-lt, zero-lt-suc}
+use Prim.Native.Nat.{ℕ, _+_, _-_, _/_, _<_}
 use native.Mathlib.Omega.{arith}
 use mathlib.Core.Path.{_≡_, refl, sym, ap, _∙_}
 use mathlib.Core.List.{List, [], _∷_, _++_, append-assoc}
-use lib.ListN.{length, getD, drop, length-append, List·getD-append}
-use lib.Seq.{take-at, drop-at, take-all, drop-drop, getD-append-seam, take-append-seam, drop-append-seam}
+use lib.ListN.{length, drop, length-append}
+use lib.Seq.{take-at, drop-at, take-all, drop-drop, take-append-seam, drop-append-seam}
 use borrow.Author.Tests.{eq-eqb, ne-eqb}
 use Rattle.numbers.specs.Numbers.{bigEndian}
 use Rattle.layout.specs.declared.Layout.{Layout}
@@ -19,16 +18,13 @@ use Rattle.map_output.specs.Ascii.{ascii}
 use Rattle.map_output.specs.Decimal.{digits, decimal}
 use Rattle.map_output.specs.MapOutput.{line, numberLine, magicLine, kindLine, headerLines, areaLines, sectorLines, lastSector}
 use Rattle.map_output.specs.MapOutput.{layoutLines, refusalLine}
-use Rattle.map_output.proofs.DecimalLaws.{digits-more}
 use Rattle.guarantees.specs.SectorMap.{Sound}
 use Rattle.guarantees.specs.WorkedCases.{volumeM}
-use Rattle.guarantees.specs.MapProgram.{ReadsInput, spelled, IsDecimal, MarkIs, vera, other, KindIs, hidden, standard}
-use Rattle.guarantees.specs.MapProgram.{printedM, hiddenVera, printedVera, PrintsLines}
-use Rattle.guarantees.proofs.Reflects.{below-suc}
+use Rattle.guarantees.specs.MapProgram.{ReadsInput, letters, MagicWord, vera, other, KindWord, hidden, standard, PrintsLines}
+use Rattle.guarantees.proofs.DecimalLaws.{is-decimal}
 use Rattle.guarantees.proofs.SectorMap.{maps-exactly}
 
--- ---- the three parts of an input
-
+-- the three parts of an input
 module _ (size : List ℕ) (code : ℕ) (candidate : List ℕ) (eight : length size ≡ 8) (whole : length candidate ≡ 512) where
   all-bytes : length (size ++ (code ∷ candidate)) ≡ 521
   all-bytes = length-append size (code ∷ candidate) ∙ omega arith
@@ -51,95 +47,12 @@ input-refused input f = rw (ne-eqb (length input) 521 f)
 pub reads-input : ReadsInput
 reads-input = record { opens = input-opens; otherLength = input-refused }
 
--- ---- decimal digits
-
-spelled-append : (a : ℕ) (xs ys : List ℕ) → spelled a (xs ++ ys) ≡ spelled (spelled a xs) ys
-unfolding spelled
-spelled-append a [] ys = refl
-spelled-append a (x ∷ xs) ys = spelled-append (a * 10 + (x - 48)) xs ys
-
--- a number's digits before the last, and the last
-spelled-last : (number : ℕ) (front : List ℕ) → spelled 0 front ≡ number / 10 → spelled 0 (front ++ ((48 + number % 10) ∷ [])) ≡ number
-unfolding spelled
-spelled-last number front e = spelled-append 0 front ((48 + number % 10) ∷ []) ∙ omega arith
-
-digits-spell : (most number : ℕ) → number < 10 ^ most → spelled 0 (digits most number) ≡ number
-unfolding spelled digits
-digits-spell zero number h = omega arith
-digits-spell (suc most) zero h = refl
-digits-spell (suc most) (suc n) h =
-    let k : suc n < 10 ^ most * 10 = rw pow-suc at h in
-    rw (digits-more most (suc n) (omega arith)) (spelled-last (suc n) (digits most (suc n / 10)) (digits-spell most (suc n / 10) (omega arith)))
-
--- a byte is an ASCII digit
-abbrev Digit : ℕ → Type 0
-Digit byte = (48 ≤ byte) × (byte ≤ 57)
-
-digits-last : (front : List ℕ) (digit : ℕ) → digit < 10 → ((i : ℕ) → i < length front → Digit (getD front i 0))
-    → (i : ℕ) → i < length (front ++ ((48 + digit) ∷ [])) → Digit (getD (front ++ ((48 + digit) ∷ [])) i 0)
-digits-last front digit small each i h =
-    let size = length-append front ((48 + digit) ∷ []) in
-    below-suc (λ (k : ℕ). Digit (getD (front ++ ((48 + digit) ∷ [])) k 0)) (length front)
-    (λ k l. rw (List·getD-append front ((48 + digit) ∷ []) 0 k l) (each k l))
-    (rw (getD-append-seam front (48 + digit) [] 0) (omega arith, omega arith)) i (omega arith)
-
-digits-each : (most number i : ℕ) → i < length (digits most number) → Digit (getD (digits most number) i 0)
-unfolding digits
-digits-each zero number = λ i h. absurd (omega arith)
-digits-each (suc most) zero = λ i h. absurd (omega arith)
-digits-each (suc most) (suc n) =
-    rw (digits-more most (suc n) (omega arith))
-    (digits-last (digits most (suc n / 10)) (suc n % 10) (mod-lt (suc n) (zero-lt-suc 9)) (digits-each most (suc n / 10)))
-
--- where there are digits, the first is not 0
-digits-some : (most number : ℕ) → 0 < number → number < 10 ^ most → 0 < length (digits most number)
-digits-some zero number positive h = absurd (omega arith)
-digits-some (suc most) number positive h = rw (digits-more most number positive, length-append) (omega arith)
-
-none-before : (most number front : ℕ) → number / 10 ≡ front → 0 < number → front < 10 ^ most → length (digits most front) ≡ 0 → 0 < number % 10
-none-before most number zero e positive small none = omega arith
-none-before most number (suc front) e positive small none = absurd (omega (arith, digits-some most (suc front) (zero-lt-suc front) small))
-
-first-last : (front : List ℕ) (digit : ℕ) → (0 < length front → 48 < getD front 0 0) → (length front ≡ 0 → 0 < digit)
-    → 48 < getD (front ++ ((48 + digit) ∷ [])) 0 0
-first-last [] digit f g = omega (arith, g refl)
-first-last (b ∷ bs) digit f g = f (zero-lt-suc (length bs))
-
-digits-first : (most number : ℕ) → number < 10 ^ most → 0 < length (digits most number) → 48 < getD (digits most number) 0 0
-unfolding digits
-digits-first zero number h some = absurd (omega arith)
-digits-first (suc most) zero h some = absurd (omega arith)
-digits-first (suc most) (suc n) h some =
-    let k : suc n < 10 ^ most * 10 = rw pow-suc at h in
-    let small : suc n / 10 < 10 ^ most = omega arith in
-    rw (digits-more most (suc n) (omega arith))
-    (first-last (digits most (suc n / 10)) (suc n % 10) (digits-first most (suc n / 10) small) (none-before most (suc n) (suc n / 10) refl (omega arith) small))
-
-alone-last : (front : List ℕ) (digit : ℕ) → (0 < length front → 48 < getD front 0 0) → getD (front ++ ((48 + digit) ∷ [])) 0 0 ≡ 48
-    → length (front ++ ((48 + digit) ∷ [])) ≡ 1
-alone-last [] digit f e = refl
-alone-last (b ∷ bs) digit f e = absurd (omega (arith, f (zero-lt-suc (length bs)), e))
-
-is-decimal : (number : ℕ) → number < 2 ^ 64 → IsDecimal number (decimal number)
-unfolding decimal
-is-decimal number h =
-    let front : List ℕ = digits 19 (number / 10) in
-    let small : number / 10 < 10 ^ 19 = omega arith in
-    record {
-      some = rw length-append (omega arith);
-      digits = digits-last front (number % 10) (mod-lt number (zero-lt-suc 9)) (digits-each 19 (number / 10));
-      spells = spelled-last number front (digits-spell 19 (number / 10) small);
-      alone = alone-last front (number % 10) (digits-first 19 (number / 10) small);
-    }
-
--- ---- the lines
-
-mark-line : {magic : ℕ} {mark : List ℕ} → MarkIs magic mark → magicLine magic ≡ line (ascii "mark") mark
+mark-line : {magic : ℕ} {word : List ℕ} → MagicWord magic word → magicLine magic ≡ line (ascii "mark") word
 unfolding magicLine
 mark-line vera = refl
 mark-line (other f) = rw (ne-eqb _ 0 f)
 
-kind-line : {kind : ℕ} {word : List ℕ} → KindIs kind word → kindLine kind ≡ line (ascii "kind") word
+kind-line : {kind : ℕ} {word : List ℕ} → KindWord kind word → kindLine kind ≡ line (ascii "kind") word
 unfolding kindLine
 kind-line hidden = refl
 kind-line (standard f) = rw (ne-eqb _ 1 f)
@@ -149,13 +62,10 @@ ten : {a k m n : List ℕ} (b c d e f g h i : List ℕ) → a ≡ m → k ≡ n
     → (a ++ b ++ c) ++ (k ++ d ++ e ++ f) ++ (g ++ h ++ i) ≡ m ++ b ++ c ++ n ++ d ++ e ++ f ++ g ++ h ++ i
 ten b c d e f g h i p q = rw (p, q) (simp append-assoc)
 
-worked : layoutLines volumeM ≡ printedM
-unfolding layoutLines headerLines areaLines sectorLines magicLine kindLine numberLine line decimal digits sectors firstSector lastSector volumeM printedM
+worked : layoutLines volumeM
+    ≡ letters "mark TRUE\nversion 5\nneeds 7\nkind standard\nhost 1048576\nstart 131072\nsize 786432\nsectors 1536\nfirst 256\nlast 1791\n"
+unfolding layoutLines headerLines areaLines sectorLines magicLine kindLine numberLine line decimal digits sectors firstSector lastSector volumeM
 worked = refl
-
-worked-vera : layoutLines hiddenVera ≡ printedVera
-unfolding layoutLines headerLines areaLines sectorLines magicLine kindLine numberLine line decimal digits sectors firstSector lastSector hiddenVera printedVera
-worked-vera = refl
 
 maps : (layout : Layout) → Sound layout
     → (sectorCount layout ≡ Number (layout .«data_size» / 512))
@@ -180,7 +90,6 @@ prints-lines =
       refusal = λ number. refl;
       decimals = is-decimal;
       worked = worked;
-      workedVera = worked-vera;
       printed = λ text before after count r. rw (r .content, r .counts) (take-append-seam text (drop (length text) before));
       untouched = λ text before after count r. rw (r .content, r .counts) (drop-append-seam text (drop (length text) before));
     }

@@ -9,6 +9,7 @@ use Rattle.guarantees.specs.BoundaryRuns.{Numbers, CarriesRuns}
 use Rattle.guarantees.specs.FromHeaders.{FromHeaders}
 use Rattle.guarantees.specs.Interleaving.{Demand3}
 use Rattle.guarantees.specs.Judging.{KeepsRules, JudgesExactly, LendsKeys}
+use Rattle.guarantees.specs.MapProgram.{ReadsInput, PrintsLines}
 use Rattle.guarantees.specs.Numbers.{SpellsNumbers, ChecksBytes}
 use Rattle.guarantees.specs.Opening.{OpensExactlyWhen, LocatesHeaders}
 use Rattle.guarantees.specs.SectorMap.{MapsExactly, OpenedIsSound}
@@ -41,5 +42,8 @@ pub record Claims : Type 0 where
       → OrdersNumbers host kind magic version program start size candidate protected first end lock
   pub stored : (before : List ℕ) → StoresAnswers before
   pub carried : (numbers : Numbers) → CarriesRuns numbers
+  -- the map program
+  pub input : ReadsInput
+  pub output : PrintsLines
   -- the worked cases
   pub worked : AsWorked

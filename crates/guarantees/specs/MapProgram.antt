@@ -1,6 +1,8 @@
--- Document 01's "The map program": what it opens of its input, and the bytes that it prints.
+-- The map program (RULES.md, Map program): what it opens of its input, and the bytes that it prints.
 -- `openedInput`, `layoutLines` and `refusalLine` are the definitions that the contracts of `map_input` and `map_output` cite. Assumes nothing.
 use Prim.Native.Nat.{ℕ, _+_, _-_, _*_, _/_, _^_, _≤_, _<_}
+use Prim.Native.Char.{code}
+use Prim.Native.String as text
 use mathlib.Core.Path.{_≡_}
 use mathlib.Core.List.{List, [], _∷_, _++_}
 use lib.ListN.{length, getD, take, drop}
@@ -34,85 +36,52 @@ pub record IsDecimal (number : ℕ) (bytes : List ℕ) : Type 0 where
   pub spells : spelled 0 bytes ≡ number
   pub alone : getD bytes 0 0 ≡ 48 → length bytes ≡ 1
 
--- the word of a magic (document 01's mark): VERA for 0, TRUE for any other
-pub data MarkIs : ℕ → List ℕ → Type 0 where
-  vera : MarkIs 0 (86 ∷ 69 ∷ 82 ∷ 65 ∷ [])
-  other : {magic : ℕ} → (magic ≡ 0 → ⊥) → MarkIs magic (84 ∷ 82 ∷ 85 ∷ 69 ∷ [])
+-- the bytes of a text in ASCII
+abbrev pub letters : text.String → List ℕ
+letters text.[] = []
+letters (text._∷_ c s) = code c ∷ letters s
+
+-- a line: a label, a space, a value and a line feed
+abbrev pub labelled : text.String → List ℕ → List ℕ
+labelled label value = letters label ++ (32 ∷ []) ++ value ++ (10 ∷ [])
+
+-- the word of a magic: VERA for 0, TRUE for any other
+pub data MagicWord : ℕ → List ℕ → Type 0 where
+  vera : MagicWord 0 (letters "VERA")
+  other : {magic : ℕ} → (magic ≡ 0 → ⊥) → MagicWord magic (letters "TRUE")
 
 -- the word of a kind: hidden for 1, standard for any other
-pub data KindIs : ℕ → List ℕ → Type 0 where
-  hidden : KindIs 1 (104 ∷ 105 ∷ 100 ∷ 100 ∷ 101 ∷ 110 ∷ [])
-  standard : {kind : ℕ} → (kind ≡ 1 → ⊥) → KindIs kind (115 ∷ 116 ∷ 97 ∷ 110 ∷ 100 ∷ 97 ∷ 114 ∷ 100 ∷ [])
-
--- what the program prints for M
-unfoldable pub printedM : List ℕ
-printedM =
-    (109 ∷ 97 ∷ 114 ∷ 107 ∷ 32 ∷ 84 ∷ 82 ∷ 85 ∷ 69 ∷ 10 ∷ [])
-    ++ (118 ∷ 101 ∷ 114 ∷ 115 ∷ 105 ∷ 111 ∷ 110 ∷ 32 ∷ 53 ∷ 10 ∷ [])
-    ++ (110 ∷ 101 ∷ 101 ∷ 100 ∷ 115 ∷ 32 ∷ 55 ∷ 10 ∷ [])
-    ++ (107 ∷ 105 ∷ 110 ∷ 100 ∷ 32 ∷ 115 ∷ 116 ∷ 97 ∷ 110 ∷ 100 ∷ 97 ∷ 114 ∷ 100 ∷ 10 ∷ [])
-    ++ (104 ∷ 111 ∷ 115 ∷ 116 ∷ 32 ∷ 49 ∷ 48 ∷ 52 ∷ 56 ∷ 53 ∷ 55 ∷ 54 ∷ 10 ∷ [])
-    ++ (115 ∷ 116 ∷ 97 ∷ 114 ∷ 116 ∷ 32 ∷ 49 ∷ 51 ∷ 49 ∷ 48 ∷ 55 ∷ 50 ∷ 10 ∷ [])
-    ++ (115 ∷ 105 ∷ 122 ∷ 101 ∷ 32 ∷ 55 ∷ 56 ∷ 54 ∷ 52 ∷ 51 ∷ 50 ∷ 10 ∷ [])
-    ++ (115 ∷ 101 ∷ 99 ∷ 116 ∷ 111 ∷ 114 ∷ 115 ∷ 32 ∷ 49 ∷ 53 ∷ 51 ∷ 54 ∷ 10 ∷ [])
-    ++ (102 ∷ 105 ∷ 114 ∷ 115 ∷ 116 ∷ 32 ∷ 50 ∷ 53 ∷ 54 ∷ 10 ∷ [])
-    ++ (108 ∷ 97 ∷ 115 ∷ 116 ∷ 32 ∷ 49 ∷ 55 ∷ 57 ∷ 49 ∷ 10 ∷ [])
-
--- a hidden volume with a VERA header, in the host of M
-unfoldable pub hiddenVera : Layout
-hiddenVera =
-    record {
-      «host_size» = 1048576;
-      kind = 1;
-      magic = 0;
-      version = 5;
-      «min_program_version» = 2817;
-      «data_start» = 655360;
-      «data_size» = 262144;
-      candidate = 0;
-    }
-
--- what the program prints for it
-unfoldable pub printedVera : List ℕ
-printedVera =
-    (109 ∷ 97 ∷ 114 ∷ 107 ∷ 32 ∷ 86 ∷ 69 ∷ 82 ∷ 65 ∷ 10 ∷ [])
-    ++ (118 ∷ 101 ∷ 114 ∷ 115 ∷ 105 ∷ 111 ∷ 110 ∷ 32 ∷ 53 ∷ 10 ∷ [])
-    ++ (110 ∷ 101 ∷ 101 ∷ 100 ∷ 115 ∷ 32 ∷ 50 ∷ 56 ∷ 49 ∷ 55 ∷ 10 ∷ [])
-    ++ (107 ∷ 105 ∷ 110 ∷ 100 ∷ 32 ∷ 104 ∷ 105 ∷ 100 ∷ 100 ∷ 101 ∷ 110 ∷ 10 ∷ [])
-    ++ (104 ∷ 111 ∷ 115 ∷ 116 ∷ 32 ∷ 49 ∷ 48 ∷ 52 ∷ 56 ∷ 53 ∷ 55 ∷ 54 ∷ 10 ∷ [])
-    ++ (115 ∷ 116 ∷ 97 ∷ 114 ∷ 116 ∷ 32 ∷ 54 ∷ 53 ∷ 53 ∷ 51 ∷ 54 ∷ 48 ∷ 10 ∷ [])
-    ++ (115 ∷ 105 ∷ 122 ∷ 101 ∷ 32 ∷ 50 ∷ 54 ∷ 50 ∷ 49 ∷ 52 ∷ 52 ∷ 10 ∷ [])
-    ++ (115 ∷ 101 ∷ 99 ∷ 116 ∷ 111 ∷ 114 ∷ 115 ∷ 32 ∷ 53 ∷ 49 ∷ 50 ∷ 10 ∷ [])
-    ++ (102 ∷ 105 ∷ 114 ∷ 115 ∷ 116 ∷ 32 ∷ 49 ∷ 50 ∷ 56 ∷ 48 ∷ 10 ∷ [])
-    ++ (108 ∷ 97 ∷ 115 ∷ 116 ∷ 32 ∷ 49 ∷ 55 ∷ 57 ∷ 49 ∷ 10 ∷ [])
+pub data KindWord : ℕ → List ℕ → Type 0 where
+  hidden : KindWord 1 (letters "hidden")
+  standard : {kind : ℕ} → (kind ≡ 1 → ⊥) → KindWord kind (letters "standard")
 
 -- the output
 pub record PrintsLines : Type 0 where
-  -- the ten lines of any layout, in order: each a label, a space, its own value and a line feed
-  pub lines : (layout : Layout) (mark kind : List ℕ) → MarkIs (layout .magic) mark → KindIs (layout .kind) kind
+  -- the ten lines of any layout, in order
+  pub lines : (layout : Layout) (magic kind : List ℕ) → MagicWord (layout .magic) magic → KindWord (layout .kind) kind
       → layoutLines layout
-      ≡ ((109 ∷ 97 ∷ 114 ∷ 107 ∷ 32 ∷ []) ++ mark ++ (10 ∷ []))
-      ++ ((118 ∷ 101 ∷ 114 ∷ 115 ∷ 105 ∷ 111 ∷ 110 ∷ 32 ∷ []) ++ decimal (layout .version) ++ (10 ∷ []))
-      ++ ((110 ∷ 101 ∷ 101 ∷ 100 ∷ 115 ∷ 32 ∷ []) ++ decimal (layout .«min_program_version») ++ (10 ∷ []))
-      ++ ((107 ∷ 105 ∷ 110 ∷ 100 ∷ 32 ∷ []) ++ kind ++ (10 ∷ []))
-      ++ ((104 ∷ 111 ∷ 115 ∷ 116 ∷ 32 ∷ []) ++ decimal (layout .«host_size») ++ (10 ∷ []))
-      ++ ((115 ∷ 116 ∷ 97 ∷ 114 ∷ 116 ∷ 32 ∷ []) ++ decimal (layout .«data_start») ++ (10 ∷ []))
-      ++ ((115 ∷ 105 ∷ 122 ∷ 101 ∷ 32 ∷ []) ++ decimal (layout .«data_size») ++ (10 ∷ []))
-      ++ ((115 ∷ 101 ∷ 99 ∷ 116 ∷ 111 ∷ 114 ∷ 115 ∷ 32 ∷ []) ++ decimal (layout .«data_size» / 512) ++ (10 ∷ []))
-      ++ ((102 ∷ 105 ∷ 114 ∷ 115 ∷ 116 ∷ 32 ∷ []) ++ decimal (layout .«data_start» / 512) ++ (10 ∷ []))
-      ++ ((108 ∷ 97 ∷ 115 ∷ 116 ∷ 32 ∷ []) ++ decimal (layout .«data_start» / 512 + (layout .«data_size» / 512 - 1)) ++ (10 ∷ []))
+      ≡ labelled "mark" magic
+      ++ labelled "version" (decimal (layout .version))
+      ++ labelled "needs" (decimal (layout .«min_program_version»))
+      ++ labelled "kind" kind
+      ++ labelled "host" (decimal (layout .«host_size»))
+      ++ labelled "start" (decimal (layout .«data_start»))
+      ++ labelled "size" (decimal (layout .«data_size»))
+      ++ labelled "sectors" (decimal (layout .«data_size» / 512))
+      ++ labelled "first" (decimal (layout .«data_start» / 512))
+      ++ labelled "last" (decimal (layout .«data_start» / 512 + (layout .«data_size» / 512 - 1)))
   -- of a sound layout the last three are the map's
   pub mapped : (layout : Layout) → Sound layout
       → (sectorCount layout ≡ Number (layout .«data_size» / 512))
       × (hostSector layout 0 ≡ Number (layout .«data_start» / 512))
       × (hostSector layout (layout .«data_size» / 512 - 1) ≡ Number (layout .«data_start» / 512 + (layout .«data_size» / 512 - 1)))
   -- the one line of any refusal
-  pub refusal : (number : ℕ) → refusalLine number ≡ (114 ∷ 101 ∷ 102 ∷ 117 ∷ 115 ∷ 101 ∷ 100 ∷ 32 ∷ []) ++ decimal number ++ (10 ∷ [])
+  pub refusal : (number : ℕ) → refusalLine number ≡ labelled "refused" (decimal number)
   -- numbers of 64 bits are in decimal
   pub decimals : (number : ℕ) → number < 2 ^ 64 → IsDecimal number (decimal number)
-  -- whole outputs, computed
-  pub worked : layoutLines volumeM ≡ printedM
-  pub workedVera : layoutLines hiddenVera ≡ printedVera
+  -- the whole output for M, computed
+  pub worked : layoutLines volumeM
+      ≡ letters "mark TRUE\nversion 5\nneeds 7\nkind standard\nhost 1048576\nstart 131072\nsize 786432\nsectors 1536\nfirst 256\nlast 1791\n"
   -- what is printed, the buffer's first count bytes, is the text, and the rest of the buffer is left as it was
   pub printed : (text before after : List ℕ) (count : ℕ) → Rendered text before after count → take count after ≡ text
   pub untouched : (text before after : List ℕ) (count : ℕ) → Rendered text before after count → drop count after ≡ drop count before

@@ -5,6 +5,7 @@ use Rattle.guarantees.proofs.BoundaryRuns.{carries-runs}
 use Rattle.guarantees.proofs.FromHeaders.{from-headers}
 use Rattle.guarantees.proofs.Interleaving.{demand-3}
 use Rattle.guarantees.proofs.Judging.{keeps-rules, judges-exactly, lends-keys}
+use Rattle.guarantees.proofs.MapProgram.{reads-input, prints-lines}
 use Rattle.guarantees.proofs.Numbers.{spells-numbers, checks-bytes}
 use Rattle.guarantees.proofs.Opening.{opens-exactly-when, locates-headers}
 use Rattle.guarantees.proofs.SectorMap.{maps-exactly, opened-sound}
@@ -34,6 +35,8 @@ returns c =
       ordered = orders-numbers;
       stored = stores-answers;
       carried = carries-runs;
+      input = reads-input;
+      output = prints-lines;
       worked = as-worked;
     }
 
