@@ -17,7 +17,7 @@ use Rattle.header.specs.Header.{magicOf, fieldsOf, checksumsMatch, isHeader, fi
 use Rattle.header.specs.Header.{versionRule, reservedRule, flagsRule, sectorSizeRule, hiddenSizeRule}
 use Rattle.opening.specs.Opening.{keysOffset, keysSize}
 use Rattle.guarantees.specs.Header.{KnownKind, IsHeader, Line, number, Keeps, FirstBroken, Tells}
-use Rattle.guarantees.specs.Judging.{KeepsRules, JudgesExactly, LendsKeys}
+use Rattle.guarantees.specs.Judging.{KeepsRules, JudgesExactly, GivesKeys}
 use Rattle.guarantees.proofs.Reflects.{Reflects, holds, fails, is-false, reflects-eqb}
 use Rattle.guarantees.proofs.RuleLaws.{host-size-reflects}
 use Rattle.guarantees.proofs.SoundLaws.{sound-reflects, data-area-rule-reflects}
@@ -128,12 +128,12 @@ module _ (kind hostSize index : ℕ) where
           anySalt = any-salt;
         }
 
-pub lends-keys : (candidates : List ℕ) (borrowed : ℕ × ℕ) (keys : List ℕ) (returned : ℕ × ℕ) → LendsKeys candidates borrowed keys returned
+pub gives-keys : (candidates : List ℕ) (borrowed : ℕ × ℕ) (keys : List ℕ) (returned : ℕ × ℕ) → GivesKeys candidates borrowed keys returned
 unfolding keysOffset keysSize
-lends-keys candidates borrowed keys returned =
+gives-keys candidates borrowed keys returned =
     record {
-      content = λ layout lent. lent .content;
-      address = λ layout lent. lent .address;
-      noContent = λ refusal lent. lent .content;
-      startAddress = λ refusal lent. lent .address;
+      content = λ layout post. post .content;
+      address = λ layout post. post .address;
+      noContent = λ refusal post. post .content;
+      startAddress = λ refusal post. post .address;
     }

@@ -8,7 +8,7 @@ use Rattle.guarantees.specs.Boundary.{TellsNumbers, ReturnsZero, OrdersN
 use Rattle.guarantees.specs.BoundaryRuns.{Numbers, CarriesRuns}
 use Rattle.guarantees.specs.FromHeaders.{FromHeaders}
 use Rattle.guarantees.specs.Interleaving.{Demand3}
-use Rattle.guarantees.specs.Judging.{KeepsRules, JudgesExactly, LendsKeys}
+use Rattle.guarantees.specs.Judging.{KeepsRules, JudgesExactly, GivesKeys}
 use Rattle.guarantees.specs.MapProgram.{ReadsInput, PrintsLines}
 use Rattle.guarantees.specs.Numbers.{SpellsNumbers, ChecksBytes}
 use Rattle.guarantees.specs.Opening.{OpensExactlyWhen, LocatesHeaders}
@@ -25,7 +25,7 @@ pub record Claims : Type 0 where
   pub judges : (kind hostSize index : ℕ) (h : List ℕ) → JudgesExactly kind hostSize index h
   pub locates : (hostSize : ℕ) → LocatesHeaders hostSize
   pub opens : (candidates codes : List ℕ) (hostSize : ℕ) → OpensExactlyWhen candidates codes hostSize
-  pub keys : (candidates : List ℕ) (borrowed : ℕ × ℕ) (keys : List ℕ) (returned : ℕ × ℕ) → LendsKeys candidates borrowed keys returned
+  pub keys : (candidates : List ℕ) (borrowed : ℕ × ℕ) (keys : List ℕ) (returned : ℕ × ℕ) → GivesKeys candidates borrowed keys returned
   pub openedSound : OpenedIsSound
   pub maps : (layout : Layout) → MapsExactly layout
   -- views, and reads and writes on any of them

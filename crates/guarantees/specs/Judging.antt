@@ -44,7 +44,7 @@ pub record JudgesExactly (kind hostSize index : ℕ) (h : List ℕ) : Type 0 whe
 
 -- the key bytes: bytes 256 to 511 of the accepted candidate, at their address in the candidates (block, and offset there); on a refusal
 -- the empty part at the candidates' start
-pub record LendsKeys (candidates : List ℕ) (borrowed : ℕ × ℕ) (keys : List ℕ) (returned : ℕ × ℕ) : Type 0 where
+pub record GivesKeys (candidates : List ℕ) (borrowed : ℕ × ℕ) (keys : List ℕ) (returned : ℕ × ℕ) : Type 0 where
   pub content : (layout : Layout) → KeyBytes (Accepted layout) candidates borrowed keys returned
       → keys ≡ bytesAt (layout .candidate * 512 + 256) 256 candidates
   pub address : (layout : Layout) → KeyBytes (Accepted layout) candidates borrowed keys returned

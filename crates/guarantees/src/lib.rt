@@ -1,7 +1,9 @@
-// No code: the demands on the crates below, stated in specs/ and proved in proofs/.
+// What is claimed of the crates below, stated in specs/ and proved in proofs/. Claims.antt holds every
+// claim. Assumes nothing; no function has a `requires`.
 ghost use Rattle.guarantees.specs.Claims.{Claims};
 
-// The claims, as a contract, so that the gate fails where one has no proof.
+// Does nothing: its contract is the record of all claims, so that the crate is proved only with a proof
+// of each.
 pub fn demands()
     ensures { λ _. ⌜ Claims ⌝ }
 {}

@@ -50,5 +50,5 @@ written-first {text = text} {before = before} {after = after} {count = count} h 
       counts = e;
       content = w .content ∙ ap (λ (k : ℕ). text ++ drop k before) e;
       fits = fits;
-      lent = sym (length-take-le count after fits);
+      borrowed = sym (length-take-le count after fits);
     }

@@ -63,12 +63,12 @@ unfoldable pub refusalLine : ℕ → List ℕ
 refusalLine number = numberLine (ascii "refused") number
 
 -- a buffer that a text was written to the start of: the count is the text's, and what stands behind it is left as it was.
--- The last two parts follow, where the text fits: they are what a caller that lends the buffer's first count bytes has to show
+-- The last two parts follow, where the text fits: a caller that borrows the first count bytes of the buffer has to show them
 pub record Rendered (text before after : List ℕ) (count : ℕ) : Type 0 where
   pub counts : count ≡ length text
   pub content : after ≡ text ++ drop (length text) before
   pub fits : count ≤ length after
-  pub lent : count ≡ length (take count after)
+  pub borrowed : count ≡ length (take count after)
 
 -- the room that a line takes at most: eight bytes of label, a space, twenty digits and a line feed
 abbrev pub lineRoom : ℕ

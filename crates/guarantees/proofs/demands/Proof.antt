@@ -4,7 +4,7 @@ use Rattle.guarantees.proofs.Boundary.{tells-numbers, returns-zero, ord
 use Rattle.guarantees.proofs.BoundaryRuns.{carries-runs}
 use Rattle.guarantees.proofs.FromHeaders.{from-headers}
 use Rattle.guarantees.proofs.Interleaving.{demand-3}
-use Rattle.guarantees.proofs.Judging.{keeps-rules, judges-exactly, lends-keys}
+use Rattle.guarantees.proofs.Judging.{keeps-rules, judges-exactly, gives-keys}
 use Rattle.guarantees.proofs.MapProgram.{reads-input, prints-lines}
 use Rattle.guarantees.proofs.Numbers.{spells-numbers, checks-bytes}
 use Rattle.guarantees.proofs.Opening.{opens-exactly-when, locates-headers}
@@ -23,7 +23,7 @@ returns c =
       judges = judges-exactly;
       locates = locates-headers;
       opens = opens-exactly-when;
-      keys = lends-keys;
+      keys = gives-keys;
       openedSound = opened-sound;
       maps = maps-exactly;
       views = makes-views;
