@@ -1,7 +1,11 @@
 -- `header::read_fields` meets its contract, field by field.
 -- Assumes nothing.
 use native.Mathlib.Omega.{arith}
+use mathlib.Core.Path.{_≡_}
 use lib.ListN.{length-take}
+use denote.Ref.{now}
+use Rattle.numbers.specs.Numbers.{bigEndian, littleEndian}
+use Rattle.header.specs.Bytes.{part}
 use Rattle.header.specs.Header.{fieldsOf}
 use borrow.Author.Needs.{needs}
 use Rattle.header.proofs.read_fields.Statement.{statement}
@@ -43,7 +47,33 @@ field-requires-7 c κs = search needs
 returns : tie.Need-returns
 unfolding fieldsOf
 returns c =
-    cc (c .before .before .before .before .before .before .read-little-endian .ensures .whole (simp length-take (omega arith)))
+    let flags = c .before in
+    let encrypted = flags .before in
+    let start = encrypted .before in
+    let size = start .before in
+    let hidden = size .before in
+    let program = hidden .before in
+    let version = program .before .before in
+    let h = now (version .before .before .args .candidate) in
+    let at68 : version .field .result ≡ bigEndian (part 68 2 h) = version .field .ensures in
+    let at70 : program .read-little-endian .result ≡ littleEndian (part 70 2 h) =
+    program .read-little-endian .ensures .whole (simp length-take (omega arith)) in
+    let at92 : hidden .field2 .result ≡ bigEndian (part 92 8 h) = hidden .field2 .ensures in
+    let at100 : size .field3 .result ≡ bigEndian (part 100 8 h) = size .field3 .ensures in
+    let at108 : start .field4 .result ≡ bigEndian (part 108 8 h) = start .field4 .ensures in
+    let at116 : encrypted .field5 .result ≡ bigEndian (part 116 8 h) = encrypted .field5 .ensures in
+    let at124 : flags .field6 .result ≡ bigEndian (part 124 4 h) = flags .field6 .ensures in
+    let at128 : c .field7 .result ≡ bigEndian (part 128 4 h) = c .field7 .ensures in
+    λ i. record {
+      version = at68 i;
+      «min_program_version» = at70 i;
+      «hidden_size» = at92 i;
+      «data_size» = at100 i;
+      «data_start» = at108 i;
+      «encrypted_size» = at116 i;
+      flags = at124 i;
+      «sector_size» = at128 i;
+    }
 
 pub read-fields-spec : {M : Type 1} → statement M
 read-fields-spec =
