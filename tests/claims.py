@@ -1,6 +1,6 @@
 #!/usr/bin/env python3
-"""Tries tools/claims.py: spoils docs/CLAIMS.md in memory, one place at a time, and fails where the check does
-not tell of it.
+"""Tries tools/claims.py: spoils docs/CLAIMS.md and docs/RULES.md in memory, one place at a time, and fails where the
+check does not tell of it.
 
     tests/claims.py
 """
@@ -10,8 +10,9 @@ from pathlib import Path
 
 sys.dont_write_bytecode = True
 sys.path.insert(0, str(Path(__file__).resolve().parent.parent / 'tools'))
-from claims import (CLAIMS, GUARANTEES, PAGE, ROOT, all_problems, called, claim_problems,  # noqa: E402
-                    is_call_row, problems, read_files, read_repository, rows)
+import rules  # noqa: E402
+from claims import PAGE, all_problems, called, claim_problems, is_call_row, problems  # noqa: E402
+from named import CLAIMS, GUARANTEES, ROOT, read_files, read_repository, rows  # noqa: E402
 
 RECORD = 'pub record Claims : Type 0 where\n  -- a claim\n  pub stated : ℕ\n  pub forgotten : ℕ\n'
 
@@ -20,8 +21,14 @@ RECORD = 'pub record Claims : Type 0 where\n  -- a claim\n  pub stated : ℕ\n  
 
 def misspelt(page):
     """Each name in backticks with a letter too many."""
-    for match in re.finditer(r'`[^`]+`', page):
+    for match in re.finditer(r'`[^`\n]+`', page):
         yield f'{match[0]} misspelt', f'{page[:match.end() - 1]}x{page[match.end() - 1:]}'
+
+
+def with_ends(page, ends):
+    """The page with something at its end that must not be there."""
+    for end in ends:
+        yield end, f'{page}\n{end}\n'
 
 
 def foreign(crate, repository):
@@ -31,7 +38,7 @@ def foreign(crate, repository):
 
 
 def row_edits(row, repository):
-    """Each line that a row must not be."""
+    """Each line that a row of calls must not be."""
     text = f'| {" | ".join(row.cells)} |'
     first, equals, *_, edits = row.cells
     crate = called(row).split('::')[0]
@@ -43,35 +50,72 @@ def row_edits(row, repository):
     yield 'for a private function', text.replace(first, '`layout::starts_after_headers`')
 
 
-def wrong_rows(page, repository):
+def with_line(page, line, text):
     lines = page.split('\n')
+    return '\n'.join(lines[:line - 1] + ([text] if text else []) + lines[line:])
+
+
+def wrong_rows(page, repository):
     for row in filter(is_call_row, rows(page)):
         for name, text in row_edits(row, repository):
-            changed = lines[:row.line - 1] + ([text] if text else []) + lines[row.line:]
-            yield f'the row of {row.cells[0]} {name}', '\n'.join(changed)
+            yield f'the row of {row.cells[0]} {name}', with_line(page, row.line, text)
 
 
-def wrong_ends(page, repository):
-    """The page with something at its end that must not be there."""
+def wrong_claims(page, repository):
+    """Pages that docs/CLAIMS.md must not be."""
     edit = foreign(GUARANTEES, repository)
-    for end in ['All 12 edits are refused.', 'There are 1,200 proved functions.', 'The seven theorems.',
-                '`Layout.nothing`', '`layout/nothing`', '`layout::nothing`', '`guarantees/specs/Nothing.antt`',
-                f'`{edit}`', f'| edits |\n|---|\n| `{edit}` |', '| edits |\n|---|\n| `layout` |',
-                '| field of `Layout` |\n|---|\n| `layout` |', 'One `name\nin two` lines.']:
-        yield end, f'{page}\n{end}\n'
-
-
-def wrong_pages(page, repository):
     yield from misspelt(page)
     yield from wrong_rows(page, repository)
-    yield from wrong_ends(page, repository)
+    yield from with_ends(page, [
+        'All 12 edits are refused.', 'There are 1,200 proved functions.', 'The seven theorems.',
+        '`Layout.nothing`', '`layout/nothing`', '`layout::nothing`', '`guarantees/specs/Nothing.antt`',
+        f'`{edit}`', f'| edits |\n|---|\n| `{edit}` |', '| edits |\n|---|\n| `layout` |',
+        '| field of `Layout` |\n|---|\n| `layout` |', 'One `name\nin two` lines.'])
 
 
-# Code that the page does not tell of.
+def wrong_bullets(page):
+    """Each rule with its file changed or left out, or without a claim."""
+    for match in re.finditer(r' \(\w+/\w+/\w+\.\w+\)(?=[;,])', page):
+        before, after = page[:match.start()], page[match.end():]
+        yield f'{match[0]} exchanged at {match.start()}', f'{before} (view/specs/Lib.antt){after}'
+        yield f'{match[0]} left out at {match.start()}', f'{before}{after}'
+    for match in re.finditer(r'definition:[^:]*?(claim:)', page):
+        yield f'no claim at {match.start(1)}', f'{page[:match.start(1)]}{page[match.end(1):]}'
 
-def with_function(files):
+
+def wrong_files(page):
+    """The table of files with a row left out, or with another file's claim in it."""
+    for row in rows(page):
+        if row.heads[0].startswith('file in '):
+            yield f'the row of {row.cells[0]} left out', with_line(page, row.line, '')
+            yield f'the row of {row.cells[0]} with `numberOf`', with_line(page, row.line, f'| {row.cells[0]} | `numberOf` |')
+
+
+def wrong_rules(page):
+    """Pages that docs/RULES.md must not be."""
+    yield from misspelt(page)
+    yield from wrong_bullets(page)
+    yield from wrong_files(page)
+    yield from with_ends(page, [
+        '- `Tells.veraTold`, `.nothing`', '- `Tells.veraTold`, `judge`, `.trueTold`', '- `Tells.veraTold`\n- `.trueTold`',
+        '`Keeps nothing`', '`refused 2`', '`sum_wraps`', '| edit |\n|---|\n| `sum_wraps` |', '| claim |\n|---|\n| `judge` |',
+        '| definition (layout/specs/Rules.antt) |\n|---|\n| `judge` |', '- definition: none; claim: `judge`',
+        '- definition: `Tells.nothing` (layout/specs/Rules.antt); claim: `Tells`', 'One `name\nin two` lines.'])
+
+
+# Code that the page does not tell of, or that must not be.
+
+def with_function(files, contract):
     path = 'crates/layout/src/lib.rt'
-    return {**files, path: f'{files[path]}\npub fn unheard() {{\n}}\n'}
+    return {**files, path: f'{files[path]}\npub fn unheard()\n{contract}{{\n}}\n'}
+
+
+def function_problems(page, files):
+    """What the check gets wrong of a function that no row has, and of one with a `requires`."""
+    for contract, sentence in (('', 'no row has'), ('    requires { ⌜ Unit ⌝ }\n', 'has a `requires`')):
+        found = all_problems(page, read_repository(with_function(files, contract)))
+        if not any(sentence in problem for _, problem in found):
+            yield f'a public function of which it should say: {sentence}'
 
 
 def told(repository):
@@ -90,23 +134,32 @@ def record_problems(repository):
             yield f'{part} left out'
 
 
-def unnoticed(page, files):
-    """What the check gets wrong."""
+def claims_unnoticed(page, files):
     repository = read_repository(files)
-    for name, text in wrong_pages(page, repository):
+    for name, text in wrong_claims(page, repository):
         if not any(all_problems(text, repository)):
             yield name
-    if not any(all_problems(page, read_repository(with_function(files)))):
-        yield 'a public function that no row has'
+    yield from function_problems(page, files)
     yield from record_problems(read_repository({**files, CLAIMS: RECORD}))
+
+
+def rules_unnoticed(page, files):
+    repository = read_repository(files)
+    for name, text in wrong_rules(page):
+        if not any(rules.all_problems(text, repository)):
+            yield name
+    if any(rules.all_problems(f'{page}\n```\none `name\n```\n- `Tells.veraTold`,\n  `.trueTold`\n', repository)):
+        yield 'a fenced block and a `.field`, which are not wrong'
 
 
 def main():
     if sys.argv[1:]:
         sys.exit(__doc__)
-    page, files = (ROOT / PAGE).read_text(), read_files()
-    found = problems(page, read_repository(files))
-    found += [f'{PAGE}: tools/claims.py is wrong on this: {name}' for name in unnoticed(page, files)]
+    files = read_files()
+    found = problems(read_repository(files))
+    for path, unnoticed in ((PAGE, claims_unnoticed), (rules.PAGE, rules_unnoticed)):
+        page = (ROOT / path).read_text()
+        found += [f'{path}: tools/claims.py is wrong on this: {name}' for name in unnoticed(page, files)]
     for sentence in found:
         print(sentence)
     if found:

@@ -1,20 +1,14 @@
 #!/usr/bin/env python3
-"""Holds docs/CLAIMS.md against the code: what it names exists, and what it must name is there.
+"""Holds docs/CLAIMS.md and docs/RULES.md against the code: what they name exists, and what they must name is there.
 
-    tools/claims.py    fail where the page is wrong, with a sentence for each place
+    tools/claims.py    fail where a page is wrong, with a sentence for each place
 
-What stands in backticks is one of these:
-- a path of the repository, or the end of one: `guarantees/specs/Opening.antt`, `specs/`;
-- a crate, and `crate::name` for a function, type or constant of it;
-- `crate/edit` for a must-fail edit, and the edit alone where it is one of `guarantees`;
-- `Record.field`, for a record of specs or a struct;
-- a name of specs, proofs or src: definition, record, field, constructor, theorem, function, type, constant;
-- one of PLAIN.
-It ends in the line that it begins in.
+named.py says what may stand in backticks; here, an edit of `guarantees` may stand without its crate. For RULES.md
+see rules.py, for CLAIMS.md here.
 
 A table whose first head is "call" or "exported function" has a row for each public function: the function,
 as `crate::name` or by its exported name; what it equals, where each name is one that its contract cites; and
-last its must-fail edits, at least two of its own crate.
+last its must-fail edits, at least two of its own crate. No public function has a `requires`.
 
 In another table, a column that has "edit" or "edits" in its head has nothing but edits, and one that has
 "field of `Record`" nothing but fields of that record and names with a dot or slash. Each field of the record
@@ -23,155 +17,25 @@ Claims stands in such a column or as `Claims.field`, and each edit of `guarantee
 
 No count of such things is written by hand.
 """
-import os
 import re
 import sys
-from collections import namedtuple
-from functools import lru_cache
-from pathlib import Path
 
-ROOT = Path(__file__).resolve().parent.parent
+import rules
+from named import (CLAIMS, GUARANTEES, ROOT, exists, is_edit, names_in, read_files, read_repository, rows,
+                   unended_problems)
+
 PAGE = 'docs/CLAIMS.md'
-CLAIMS = 'crates/guarantees/specs/Claims.antt'
-GUARANTEES = 'guarantees'
 BOUNDARY = 'ondristela'
 
-# Words of Rattle and C that may stand in backticks.
-PLAIN = {'requires', '&mut', 'memmove'}
-
-# What is not counted by hand, and the counts that are no counts of ours but facts of document 01.
+# What is not counted by hand.
 COUNTED = ('edits functions calls theorems laws definitions records fields claims contracts proofs crates '
            'programs files tests checks cases openings layouts headers views makings reads writes '
            'interleavings refusals samples').split()
 NUMERALS = ('three four five six seven eight nine ten eleven twelve thirteen fourteen fifteen sixteen '
             'seventeen eighteen nineteen twenty').split()
-ALLOWED_COUNTS = set()
-
-Function = namedtuple('Function', 'place cited')
-Crate = namedtuple('Crate', 'edits names functions')
-Repository = namedtuple('Repository', 'paths crates names records claims')
-Row = namedtuple('Row', 'line heads cells')
-Name = namedtuple('Name', 'line text')
-
-
-# The repository, from its texts by path.
-
-def crate_of(path):
-    return path.split('/')[1] if path.startswith('crates/') else None
-
-
-def spec_names(text):
-    """What a file of specs or proofs declares: everything that a type follows."""
-    declared = r'^ *(?:(?:abbrev|unfoldable|pub) )*(?:(?:record|data) (\S+)|((?:[^\s:(){}→=]+ )+):(?=\s))'
-    return {name for match in re.finditer(declared, text, re.M) for name in (match[1] or match[2]).split()}
-
-
-def spec_records(text):
-    """The fields of each record."""
-    blocks = re.finditer(r'^( *)pub record (\S+).*\n((?:\1  .*\n|\n)*)', text + '\n', re.M)
-    return {match[2]: set(' '.join(re.findall(rf'^{match[1]}  pub ([^:(]+) :', match[3], re.M)).split())
-            for match in blocks}
-
-
-def source_names(text):
-    return set(re.findall(r'(?:\b(?:fn|struct|enum|const|mod) |^ +pub (?=\w+:))(\w+)', text, re.M))
-
-
-def source_structs(text):
-    blocks = re.finditer(r'^pub struct (\w+) \{\n(.*?)^\}', text, re.M | re.S)
-    return {match[1]: set(re.findall(r'^ +pub (\w+):', match[2], re.M)) for match in blocks}
-
-
-def cited(contract, aliases):
-    """The names in the `ensures` of a contract, as the specs have them."""
-    _, _, promises = contract.partition('ensures')
-    return {aliases.get(name, name) for name in re.findall(r'[^\s(){}\[\]«»⌜⌝.,;]+', promises)}
-
-
-def public_functions(path, prefix, text):
-    """The public functions of a source file, by the names that a caller uses. Methods are indented."""
-    item = r'^impl(?:<[^>]*>)? (\w+)|^( *)pub (?:(?:const|unsafe|extern "C") )*fn (\w+)'
-    aliases = {alias: name for name, alias in re.findall(r'([^\s{]+) as (\w+)[,}]', text)}
-    found, owner = {}, ''
-    for match in re.finditer(item, text, re.M):
-        if match[1]:
-            owner = f'{match[1]}::'
-            continue
-        name = f'{prefix}::{owner if match[2] else ""}{match[3]}'
-        contract = re.split(r'\n\s*\{?\n', text[match.end():], maxsplit=1)[0]
-        line = text.count('\n', 0, match.start()) + 1
-        found[name] = Function(f'{path}:{line}', cited(contract, aliases))
-    return found
-
-
-def crate_functions(files, crate):
-    """The public functions of a library crate: those of lib.rt, and of the modules that it makes public."""
-    folder = f'crates/{crate}/src'
-    library = files.get(f'{folder}/lib.rt', '')
-    functions = public_functions(f'{folder}/lib.rt', crate, library)
-    for module in re.findall(r'^pub mod (\w+);', library, re.M):
-        path = f'{folder}/{module}.rt'
-        functions.update(public_functions(path, f'{crate}::{module}', files.get(path, '')))
-    return functions
-
-
-def read_crate(files, crate):
-    own = [path for path in files if crate_of(path) == crate]
-    edits = {Path(path).stem for path in own if re.fullmatch(r'crates/\w+/must-fail/\w+\.edit', path)}
-    names = set().union(*(source_names(files[path]) for path in own if path.endswith('.rt')))
-    return Crate(edits, names, crate_functions(files, crate))
-
-
-def read_records(files):
-    """The fields of the records of specs and the structs of src, by name."""
-    records = {}
-    for path, text in files.items():
-        found = spec_records(text) if '/specs/' in path else source_structs(text)
-        for name, fields in found.items():
-            records.setdefault(name, set()).update(fields)
-    return records
-
-
-def parts_of(path):
-    """What may be written of a path: it or a folder of it, from any folder on."""
-    parts = path.split('/')
-    return {'/'.join(parts[start:end]) for end in range(1, len(parts) + 1) for start in range(end)}
-
-
-def read_repository(files):
-    crates = {crate: read_crate(files, crate) for crate in {crate_of(path) for path in files} - {None}}
-    declared = (spec_names(text) for path, text in files.items() if path.endswith('.antt'))
-    names = set().union(*declared, *(crate.names for crate in crates.values()), crates)
-    paths = set().union(*map(parts_of, files))
-    claims = spec_records(files[CLAIMS]).get('Claims', set()) if CLAIMS in files else None
-    return Repository(paths, crates, names, read_records(files), claims)
 
 
 # The page.
-
-@lru_cache(1)
-def rows(page):
-    """The rows of every table, each with the heads of its columns."""
-    return list(read_rows(page))
-
-
-def read_rows(page):
-    heads = None
-    for line, text in enumerate(page.split('\n'), 1):
-        cells = [cell.strip() for cell in text.strip().strip('|').split('|')]
-        if not text.startswith('|'):
-            heads = None
-        elif heads is None:
-            heads = cells
-        elif not re.fullmatch(r'[-:| ]+', text):
-            yield Row(line, heads, cells)
-
-
-def names_in(text):
-    """What stands in backticks."""
-    for line, part in enumerate(text.split('\n'), 1):
-        yield from (Name(line, name) for name in re.findall(r'`([^`]+)`', part))
-
 
 def is_call_row(row):
     return row.heads[0] in ('call', 'exported function')
@@ -198,43 +62,11 @@ def field_cells(page):
 
 # What is wrong: pairs of a line and a sentence.
 
-def is_path(name, paths):
-    return re.search(r'[./]', name) and name.removesuffix('/') in paths
-
-
-def is_edit(name, crate, repository):
-    """An edit of the crate, or one that is written with its crate."""
-    owner, _, edit = name.rpartition('/')
-    owner = owner or crate
-    return owner in repository.crates and edit in repository.crates[owner].edits
-
-
-def is_in_crate(name, repository):
-    crate, _, rest = name.partition('::')
-    if crate not in repository.crates:
-        return False
-    return name in repository.crates[crate].functions or rest in repository.crates[crate].names
-
-
-def is_field(name, repository):
-    record, _, field = name.partition('.')
-    return field in repository.records.get(record, set())
-
-
-def exists(name, repository):
-    return (name in PLAIN or name in repository.names or is_path(name, repository.paths)
-            or is_edit(name, GUARANTEES, repository) or is_in_crate(name, repository)
-            or is_field(name, repository))
-
-
 def name_problems(page, repository):
-    for line, text in enumerate(page.split('\n'), 1):
-        if text.count('`') % 2:
-            yield line, 'what stands in backticks must end in its line'
     calls = {row.line: row for row in rows(page) if is_call_row(row)}
     for name in names_in(page):
         edits = name.line in calls and f'`{name.text}`' in calls[name.line].cells[-1]
-        if not edits and not exists(name.text, repository):
+        if not edits and not exists(name.text, repository) and not is_edit(name.text, GUARANTEES, repository):
             yield name.line, f'`{name.text}` is nowhere in the code'
     for line, names in edit_cells(page):
         for name in names:
@@ -283,8 +115,11 @@ def call_problems(page, repository):
         crate, function = functions[name]
         yield from ((row.line, sentence) for sentence in row_problems(row, function, crate, repository))
     end = page.count('\n') + 1
-    for name in sorted(functions.keys() - listed):
-        yield end, f'no row has the public function `{name}`, at {functions[name][1].place}'
+    for name, (_, function) in sorted(functions.items()):
+        if name not in listed:
+            yield end, f'no row has the public function `{name}`, at {function.place}'
+        if function.requires:
+            yield end, f'the public function `{name}`, at {function.place}, has a `requires`'
 
 
 def claim_problems(page, repository):
@@ -306,45 +141,41 @@ def claim_problems(page, repository):
 def count_problems(page):
     """Counts written by hand: a number, at most one word, and a thing that is counted."""
     prose = re.sub(r'`[^`\n]*`', '`', page)
-    number = rf'\b(?<![\^,.-])(?<!document )(?:\d[\d,.]*|{"|".join(NUMERALS)})'
+    number = rf'\b(?<![\^,.-])(?:\d[\d,.]*|{"|".join(NUMERALS)})'
     for match in re.finditer(rf'{number}\s+(?:[\w-]+\s+)?(?:{"|".join(COUNTED)})\b', prose, re.I):
         phrase = ' '.join(match[0].split())
-        if phrase.lower() not in ALLOWED_COUNTS:
-            yield prose.count('\n', 0, match.start()) + 1, f'"{phrase}" is a count written by hand'
+        yield prose.count('\n', 0, match.start()) + 1, f'"{phrase}" is a count written by hand'
 
 
 def all_problems(page, repository):
+    yield from unended_problems(page)
     yield from name_problems(page, repository)
     yield from call_problems(page, repository)
     yield from claim_problems(page, repository)
     yield from count_problems(page)
 
 
-def problems(page, repository):
-    """A sentence for each thing that is wrong on the page, with its place."""
-    found = sorted(set(all_problems(page, repository)))
-    return [f'{PAGE}:{line}: {sentence}' for line, sentence in found]
+def page_problems(path, page, repository):
+    """A sentence for each thing that is wrong on a page, with its place."""
+    check = {PAGE: all_problems, rules.PAGE: rules.all_problems}[path]
+    return [f'{path}:{line}: {sentence}' for line, sentence in sorted(set(check(page, repository)))]
 
 
-def read_files():
-    """Every file of the repository by its path, with the texts of code, specs and proofs."""
-    files = {}
-    for folder, folders, names in os.walk(ROOT):
-        folders[:] = [name for name in folders if name not in ('.git', 'target', '__pycache__')]
-        for path in (Path(folder) / name for name in names):
-            files[str(path.relative_to(ROOT))] = path.read_text() if path.suffix in ('.rt', '.antt') else ''
-    return files
+def problems(repository):
+    """The same for both pages."""
+    return [sentence for path in (PAGE, rules.PAGE)
+            for sentence in page_problems(path, (ROOT / path).read_text(), repository)]
 
 
 def main():
     if sys.argv[1:]:
         sys.exit(__doc__)
-    found = problems((ROOT / PAGE).read_text(), read_repository(read_files()))
+    found = problems(read_repository(read_files()))
     for sentence in found:
         print(sentence)
     if found:
         sys.exit(1)
-    print(f'claims: {PAGE} names what exists, and every public function')
+    print(f'claims: {PAGE} and {rules.PAGE} name what exists, and {PAGE} every public function')
 
 
 if __name__ == '__main__':
