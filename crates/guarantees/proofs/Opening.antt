@@ -1,4 +1,4 @@
--- A volume opens exactly when some candidate header meets the rules, and the header locations are document 01's.
+-- A volume opens exactly when some candidate header meets the rules, and the headers are where RULES.md, Header locations, has them.
 -- Assumes nothing.
 use Prim.Native.Nat.{ℕ, _≤_}
 use native.Mathlib.Omega.{arith}

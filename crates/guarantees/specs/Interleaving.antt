@@ -1,5 +1,6 @@
--- Demand 3, one claim over two lists of calls: on an outer view that protects the hidden range, and on that hidden view, over one image.
--- A run's steps are stated with `ReadPost` and `WritePost`, the predicates that the contracts of `view::read` and `view::write` cite. Assumes nothing.
+-- Demand 3 (RULES.md, Interleavings): one claim over two lists of calls, on an outer view that protects the hidden range and on that
+-- hidden view, over one image. A run's steps are stated with `ReadPost` and `WritePost`, the predicates that the contracts of
+-- `View::read` and `View::write` cite. Assumes nothing.
 use Prim.Native.Nat.{ℕ}
 use mathlib.Core.Path.{_≡_}
 use mathlib.Core.Bool.{Bool, false, cond}
@@ -19,7 +20,7 @@ use Rattle.guarantees.specs.Table.{Kind, reads, writes, sectorAt, gather
 abbrev pub turn : Side → Call → Turn
 turn side call = record { side = side; call = call }
 
--- an interleaving of two lists (document 01's merging): each list's calls in their order
+-- an interleaving of two lists: each list's calls in their order
 pub data Interleaves : List Call → List Call → List Turn → Type 0 where
   none : Interleaves [] [] []
   fromOuter : {call : Call} {xs ys : List Call} {turns : List Turn} → Interleaves xs ys turns → Interleaves (call ∷ xs) ys (turn outer call ∷ turns)
@@ -45,7 +46,7 @@ viewOf hidden state = state .hiddenView
 abbrev pub seen : Outcome → List ℕ → Reply
 seen outcome buffer = record { answer = answerNumber (outcome .answer); buffer = buffer }
 
--- one call that keeps its contract: it gets its view as its last call returned it, and the image as the last call left it
+-- one call that keeps its contract: its view is as the call before it on that side handed it back, the image as any call before it left it
 pub data Step : State → Turn → Reply → State → Type 0 where
   aRead : {state : State} (side : Side) (first count : ℕ) (buffer filled : List ℕ) (outcome : Outcome)
       → ReadPost (viewOf side state) (state .image) first count buffer outcome filled

@@ -1,4 +1,4 @@
--- Document 01's starred cases, in one table, computed from the definitions that the contracts cite. Assumes nothing.
+-- The starred cases (RULES.md, Worked cases), in one table, computed from the definitions that the contracts cite. Assumes nothing.
 use Prim.Native.Nat.{ℕ, zero, suc, _-_, _*_, _/_, _%_, _^_}
 use mathlib.Core.Path.{_≡_}
 use mathlib.Core.List.{List, [], _∷_, _++_, map}
@@ -46,7 +46,7 @@ shown (Refused number) = number ∷ []
 unfoldable pub opens : ℕ → List ℕ → List ℕ
 opens hostSize header = shown (opened header (0 ∷ []) hostSize)
 
--- document 01's M, a standard volume
+-- M, a standard volume
 unfoldable pub volumeM : Layout
 volumeM =
     record {
@@ -60,7 +60,7 @@ volumeM =
       candidate = 0;
     }
 
--- document 01's N, hidden in M
+-- N, hidden in M
 unfoldable pub volumeN : Layout
 volumeN =
     record {
@@ -99,7 +99,7 @@ reading first count view = readNumber view 1048576 first count (count * 512)
 unfoldable pub leaving : ℕ → ℕ → View → View
 leaving first count view = after view (writing first count view)
 
--- a case: what the definitions answer, and what document 01 says
+-- a case: what the definitions answer, and what the rules say
 pub record Case : Type 0 where
   pub answer : List ℕ
   pub expected : List ℕ
@@ -140,6 +140,6 @@ cases =
     ∷ record { answer = onView (plainView volumeM) (writing 1537 0); expected = 16 ∷ [] }
     ∷ []
 
--- every case is as document 01 says
+-- every case is as the rules say
 unfoldable pub AsWorked : Type 0
 AsWorked = map (λ (c : Case). c .answer) cases ≡ map (λ (c : Case). c .expected) cases

@@ -1,4 +1,4 @@
--- The map program's input (document 01, "The map program"): what the contract of `open_input` cites. Assumes nothing.
+-- The map program's input (RULES.md, Map program): what the contract of `open_input` cites. Assumes nothing.
 use Prim.Native.Nat.{ℕ}
 use mathlib.Core.Bool.{cond}
 use mathlib.Core.List.{List}

@@ -1,4 +1,4 @@
--- The map program's output (document 01, "The map program"), in ASCII: what the contracts of `map_output` cite. Assumes nothing.
+-- The map program's output (RULES.md, Map program), in ASCII: what the contracts of `map_output` cite. Assumes nothing.
 use Prim.Native.Nat.{ℕ, _+_, _-_, _≤_}
 use mathlib.Core.Path.{_≡_}
 use mathlib.Core.Bool.{cond}
