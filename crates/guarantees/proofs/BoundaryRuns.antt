@@ -3,21 +3,29 @@ use Prim.Native.Nat.{ℕ}
 use native.Mathlib.Omega.{arith}
 use mathlib.Core.Path.{_≡_, refl, sym, ap, _∙_}
 use mathlib.Core.Bool.{Bool, true, false, cond}
-use mathlib.Core.List.{List, [], _∷_}
+use mathlib.Core.List.{List, [], _∷_, _++_}
 use lib.Dec.{eqb}
 use lib.ListN.{length, set, length-set}
+use Rattle.layout.specs.declared.Layout.{Layout}
 use Rattle.view.specs.Access.{readNumber, writeNumber, answered, after, ReadPost, WritePost}
 use Rattle.view.specs.declared.Outcome.{Outcome}
+use Rattle.view.specs.declared.Protection.{Protection}
+use Rattle.view.specs.declared.Protection.the-variants.{Unprotected, Protected}
 use Rattle.view.specs.declared.View.{View}
+use Rattle.view.specs.declared.Viewed.the-variants.{Made}
 use Rattle.view.proofs.AccessLaws.{answer-number-answered}
-use Rattle.ondristela.specs.Boundary.{viewOf, viewLeft, ReadCall, WriteCall}
-use Rattle.guarantees.specs.BoundaryRuns.{Numbers, Twelve, told, numbersOf, putNumbers, NumberStep, NumberRun, CarriesRuns}
+use Rattle.ondristela.specs.Boundary.{viewOf, viewLeft, viewedLeft, ReadCall, WriteCall}
+use Rattle.guarantees.specs.Boundary.{storedLayout, storedProtection}
+use Rattle.guarantees.specs.BoundaryRuns.{Numbers, Twelve, told, numbersOf, putNumbers, storedFor, NumberStep, NumberRun, CarriesRuns, BeginsRuns}
 use Rattle.guarantees.specs.BoundaryRuns as numbered
 use Rattle.guarantees.specs.Interleaving.{State, put, turn, Step, aRead, aWrite, Run, done, step}
 use Rattle.guarantees.specs.Interleaving as states
 use Rattle.guarantees.specs.ReferenceModel.{Side, outer, hidden, Turn, Reply}
 use Rattle.guarantees.specs.Table.{Kind, reads, writes}
+use Rattle.guarantees.specs.Views.{plain, protecting}
+use Rattle.guarantees.proofs.Boundary.{stores-answers}
 use Rattle.guarantees.proofs.BoundaryNumbers.{view-of-left}
+use Rattle.guarantees.proofs.Views.{makes-views}
 
 -- the view of a side, from its numbers
 view-told : (side : Side) (numbers : Numbers) → states.viewOf side (told numbers) ≡ viewOf (numbersOf side numbers)
@@ -124,3 +132,29 @@ run-exists numbers (call ∷ turns) =
 
 pub carries-runs : (numbers : Numbers) → CarriesRuns numbers
 carries-runs numbers = record { runs = run-exists numbers; isRun = λ t turns answers last r. run-is t r }
+
+-- the numbers stored for a view that is made
+stored-twelve : (view : View) (before : List ℕ) → length (viewedLeft (Made view) before) ≡ 12
+stored-twelve view before = ap length (stores-answers before .view view) ∙ go (view .protection)
+  where
+    go : (protection : Protection) → length (storedLayout (view .layout) ++ storedProtection protection ++ cond (view .locked) 1 0 ∷ []) ≡ 12
+    go Unprotected = refl
+    go (Protected first end) = refl
+
+pub begins-runs : (outerLayout innerLayout : Layout) → BeginsRuns outerLayout innerLayout
+unfolding told storedFor states.start
+begins-runs outerLayout innerLayout =
+    let outer = makes-views outerLayout innerLayout in
+    let inner = makes-views innerLayout innerLayout in
+    record {
+      start = λ s t n before other image.
+          rw (outer .guardedMade s t n, inner .plainMade t) λ i.
+          record {
+            outerView = stores-answers before .viewBack (protecting outerLayout innerLayout false) i;
+            hiddenView = stores-answers other .viewBack (plain innerLayout false) i;
+            image = image;
+          };
+      twelve = λ s t n before other image.
+          rw (outer .guardedMade s t n, inner .plainMade t)
+          (record { outerTwelve = stored-twelve (protecting outerLayout innerLayout false) before; hiddenTwelve = stored-twelve (plain innerLayout false) other });
+    }

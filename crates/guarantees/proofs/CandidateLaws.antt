@@ -67,5 +67,5 @@ module _ (candidates codes : List ℕ) (hostSize i : ℕ) where
   unfolding candidate candidateAt
   judge-at-says lengths inside known =
       rw location-of-kind
-      (judge-says (kindOf (getD codes i 0)) hostSize i (candidate candidates i) (kind-of-says (getD codes i 0))
+      (judge-says (kindOf (getD codes i 0)) hostSize i (candidate candidates i)
       (length-candidate candidates codes i lengths inside))

@@ -60,15 +60,20 @@ module _ (kind hostSize : ℕ) (h : List ℕ) where
       after (below-suc KeepsAt (number line) before (λ other e. subst (λ l. Keeps l kind hostSize h) (sym (number-injective other line e)) p))
   line-says line (fails f) before after = oneBroken line (record { broken = f; earlier = λ other lt. before (number other) lt other refl })
 
-  first-broken-says : KnownKind kind → IsHeader h → BrokenLine (firstBroken kind hostSize (magicOf h) (fieldsOf h) h)
+  -- a kept line of the hidden size tells a known kind
+  known-kind : Keeps hiddenSize kind hostSize h → KnownKind kind
+  unfolding Keeps
+  known-kind keeps = keeps .0
+
+  first-broken-says : IsHeader h → BrokenLine (firstBroken kind hostSize (magicOf h) (fieldsOf h) h)
   unfolding firstBroken number
-  first-broken-says k r =
+  first-broken-says r =
       line-says version (version-reflects kind hostSize h (r .magic) (magic-of-says h)) (λ n lt line e. absurd (omega (arith, number-bounds line))) λ to5.
       line-says reserved (reserved-reflects kind hostSize h (r .magic) (magic-of-says h)) to5 λ to6.
       line-says flags (flags-reflects kind hostSize h) to6 λ to7.
       line-says sectorSize (sector-size-reflects kind hostSize h) to7 λ to8.
-      line-says hiddenSize (hidden-size-reflects kind hostSize h k) to8 λ to9.
-      line-says dataArea (data-area-reflects kind hostSize h k) to9 λ to10.
+      line-says hiddenSize (hidden-size-reflects kind hostSize h) to8 λ to9.
+      line-says dataArea (data-area-reflects kind hostSize h (known-kind (to9 9 (omega arith) hiddenSize refl))) to9 λ to10.
       allKept (λ line. to10 (number line) (omega (arith, number-bounds line)) line refl)
 
 module _ (kind hostSize index : ℕ) (h : List ℕ) where
@@ -87,10 +92,10 @@ module _ (kind hostSize index : ℕ) (h : List ℕ) where
   answer-says r (allKept keeps) = accepts r keeps
   answer-says r (oneBroken line breaks) = rw (ne-eqb (number line) 0 (omega (arith, number-bounds line))) (refuses r line breaks)
 
-  pub judge-says : KnownKind kind → length h ≡ 512 → Judgement (judge kind hostSize index h)
+  pub judge-says : length h ≡ 512 → Judgement (judge kind hostSize index h)
   unfolding judge
-  judge-says k size = go (is-header-reflects h size)
+  judge-says size = go (is-header-reflects h size)
     where
       go : {b : Bool} → Reflects (IsHeader h) b → Judgement (cond b (answer (firstBroken kind hostSize (magicOf h) (fieldsOf h) h) Told) (Refused 4))
-      go (holds r) = answer-says r (first-broken-says kind hostSize h k r)
+      go (holds r) = answer-says r (first-broken-says kind hostSize h r)
       go (fails f) = refuses4 f

@@ -4,26 +4,22 @@ use Prim.Native.Nat.{ℕ, _+_, _*_, _≤_, _<_}
 use native.Mathlib.Omega.{arith}
 use mathlib.Core.Path.{_≡_, refl, sym, ap, _∙_}
 use mathlib.Core.Logic.{_↔_}
-use mathlib.Core.Bool.{Bool, true, false, cond}
+use mathlib.Core.Bool.{Bool, true}
 use mathlib.Core.List.{List, [], _++_}
 use lib.ListN.{length, drop, length-append}
 use lib.Seq.{drop-at, drop-drop}
 use borrow.Author.Tests.{ne-eqb}
-use Rattle.layout.specs.Answer.{line}
 use Rattle.layout.specs.declared.Layout.{Layout}
 use Rattle.layout.specs.declared.Opened.{Opened}
 use Rattle.layout.specs.declared.Opened.the-variants.{Accepted, Refused}
-use Rattle.header.specs.Header.{magicOf, fieldsOf, checksumsMatch, isHeader, firstBroken, layoutOf, answer, judge}
-use Rattle.header.specs.Header.{versionRule, reservedRule, flagsRule, sectorSizeRule, hiddenSizeRule}
+use Rattle.header.specs.Header.{magicOf, fieldsOf, checksumsMatch, isHeader, firstBroken, reservedRule, judge}
 use Rattle.opening.specs.Opening.{keysOffset, keysSize}
-use Rattle.guarantees.specs.Header.{KnownKind, IsHeader, Line, number, Keeps, FirstBroken, Tells}
+use Rattle.guarantees.specs.Header.{IsHeader, Line, number, Keeps, FirstBroken, Tells}
 use Rattle.guarantees.specs.Judging.{KeepsRules, JudgesExactly, GivesKeys}
 use Rattle.guarantees.proofs.Reflects.{Reflects, holds, fails, is-false, reflects-eqb}
 use Rattle.guarantees.proofs.RuleLaws.{host-size-reflects}
 use Rattle.guarantees.proofs.SoundLaws.{sound-reflects, data-area-rule-reflects}
 use Rattle.guarantees.proofs.HeaderLaws.{is-header-reflects}
-use Rattle.guarantees.proofs.FoundLaws.{refused-is-not-accepted}
-use Rattle.guarantees.proofs.LineLaws.{area-reflects}
 use Rattle.guarantees.proofs.CandidateLaws.{layout-tells}
 use Rattle.guarantees.proofs.JudgementLaws.{Told, Judgement, accepts, refuses, refuses4, judge-says}
 
@@ -91,40 +87,13 @@ module _ (kind hostSize index : ℕ) where
     by-all (refuses r line b) s k = absurd (b .broken (k line))
     by-all (refuses4 f) s k = absurd (f s)
 
-    -- of any other kind the last line is broken, so some line is
-    some-line : (a b c d e : Bool) → 0 < line 5 a (line 6 b (line 7 c (line 8 d (line 9 e (line 10 false 0)))))
-    some-line false b c d e = omega arith
-    some-line true false c d e = omega arith
-    some-line true true false d e = omega arith
-    some-line true true true false e = omega arith
-    some-line true true true true false = omega arith
-    some-line true true true true true = omega arith
-
-    breaks-some : (KnownKind kind → ⊥) → 0 < firstBroken kind hostSize (magicOf h) (fieldsOf h) h
-    unfolding firstBroken
-    breaks-some f =
-        let fields = fieldsOf h in
-        rw (is-false (area-reflects kind hostSize (fields .«data_start») (fields .«data_size») (fields .«encrypted_size»)) (λ p. f (p .0)))
-        (some-line (versionRule (magicOf h) (fields .version)) (reservedRule (magicOf h) (fields .flags) h) (flagsRule (fields .flags))
-        (sectorSizeRule (fields .«sector_size»)) (hiddenSizeRule kind (fields .«hidden_size») (fields .«data_size»)))
-
-    not-accepted : (n : ℕ) → 0 < n → (b : Bool) (given layout : Layout) → cond b (answer n given) (Refused 4) ≡ Accepted layout → ⊥
-    unfolding answer
-    not-accepted n positive true given layout e = refused-is-not-accepted (rw (ne-eqb n 0 (λ z. omega arith)) at e)
-    not-accepted n positive false given layout e = refused-is-not-accepted e
-
-    other-kind : (KnownKind kind → ⊥) → (layout : Layout) → judge kind hostSize index h ≡ Accepted layout → ⊥
-    unfolding judge
-    other-kind f layout e = not-accepted _ (breaks-some f) (isHeader h) (Told kind hostSize index h) layout e
-
     pub judges-exactly : JudgesExactly kind hostSize index h
     judges-exactly =
         record {
           otherLength = other-length;
           noHeader = no-header;
-          breaks = λ known size r line b. by-line (judge-says kind hostSize index h known size) r line b;
-          accepts = λ known size r keeps. by-all (judge-says kind hostSize index h known size) r keeps;
-          otherKind = other-kind;
+          breaks = λ size r line b. by-line (judge-says kind hostSize index h size) r line b;
+          accepts = λ size r keeps. by-all (judge-says kind hostSize index h size) r keeps;
           anySalt = any-salt;
         }
 

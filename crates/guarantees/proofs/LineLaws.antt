@@ -70,14 +70,11 @@ module _ (kind hostSize : ℕ) (h : List ℕ) where
   unfolding fieldsOf Keeps sectorSizeRule
   sector-size-reflects = reflects-eqb (fieldsOf h .«sector_size») 512
 
-  pub hidden-size-reflects : KnownKind kind
-      → Reflects (Keeps hiddenSize kind hostSize h) (hiddenSizeRule kind (fieldsOf h .«hidden_size») (fieldsOf h .«data_size»))
+  pub hidden-size-reflects : Reflects (Keeps hiddenSize kind hostSize h) (hiddenSizeRule kind (fieldsOf h .«hidden_size») (fieldsOf h .«data_size»))
   unfolding fieldsOf Keeps hiddenSizeRule
-  hidden-size-reflects either =
+  hidden-size-reflects =
       let zero = reflects-eqb (fieldsOf h .«hidden_size») 0 in
-      rw and-assoc
-      (known-reflects either
-      (kind-reflects kind zero (reflects-and (reflects-not zero) (reflects-eqb (fieldsOf h .«hidden_size») (fieldsOf h .«data_size»)))))
+      rw and-assoc (kind-reflects kind zero (reflects-and (reflects-not zero) (reflects-eqb (fieldsOf h .«hidden_size») (fieldsOf h .«data_size»))))
 
 -- the last line, over its numbers: no other kind passes it
 pub area-reflects : (kind hostSize start size encryptedSize : ℕ)

@@ -3,11 +3,17 @@
 use Prim.Native.Nat.{ℕ}
 use mathlib.Core.Path.{_≡_}
 use mathlib.Core.List.{List, [], _∷_}
+use mathlib.Core.Bool.{false}
 use lib.ListN.{length}
-use Rattle.ondristela.specs.Boundary.{viewOf, ReadCall, WriteCall}
+use Rattle.layout.specs.declared.Layout.{Layout}
+use Rattle.view.specs.Views.{plainView, protectedView}
+use Rattle.ondristela.specs.Boundary.{viewOf, viewedLeft, ReadCall, WriteCall}
 use Rattle.guarantees.specs.Interleaving.{turn, State, Run}
+use Rattle.guarantees.specs.Interleaving as states
 use Rattle.guarantees.specs.ReferenceModel.{Side, outer, hidden, Turn, Reply}
+use Rattle.guarantees.specs.SectorMap.{Sound}
 use Rattle.guarantees.specs.Table.{reads, writes}
+use Rattle.guarantees.specs.Views.{Nested}
 
 -- both views' numbers, and the image
 pub record Numbers : Type 0 where
@@ -34,6 +40,15 @@ unfoldable pub putNumbers : Side → List ℕ → List ℕ → Numbers → Numbe
 putNumbers outer left image numbers = record { outerNumbers = left; hiddenNumbers = numbers .hiddenNumbers; image = image }
 putNumbers hidden left image numbers = record { outerNumbers = numbers .outerNumbers; hiddenNumbers = left; image = image }
 
+-- what `ondristela_view_protected` and `ondristela_view_plain` store for an outer and a hidden layout, and an image
+unfoldable pub storedFor : Layout → Layout → List ℕ → List ℕ → List ℕ → Numbers
+storedFor outerLayout innerLayout before other image =
+    record {
+      outerNumbers = viewedLeft (protectedView outerLayout innerLayout) before;
+      hiddenNumbers = viewedLeft (plainView innerLayout) other;
+      image = image;
+    }
+
 -- one exported call that keeps its contract: it gets its view's numbers and the image as the calls before left them
 pub data NumberStep : Numbers → Turn → Reply → Numbers → Type 0 where
   aRead : {numbers : Numbers} (side : Side) (first count : ℕ) (buffer filled : List ℕ) (number : ℕ)
@@ -58,3 +73,10 @@ pub record CarriesRuns (numbers : Numbers) : Type 0 where
   -- and each is a run on the views that the numbers tell, with the same answers, bytes and image
   pub isRun : Twelve numbers → (turns : List Turn) (answers : List Reply) (last : Numbers) → NumberRun numbers turns answers last
       → Run (told numbers) turns answers (told last)
+
+-- where such runs begin: the numbers stored for the two views of demand 3 tell its start
+pub record BeginsRuns (outerLayout innerLayout : Layout) : Type 0 where
+  pub start : Sound outerLayout → Sound innerLayout → Nested outerLayout innerLayout → (before other image : List ℕ)
+      → told (storedFor outerLayout innerLayout before other image) ≡ states.start outerLayout innerLayout false false image
+  pub twelve : Sound outerLayout → Sound innerLayout → Nested outerLayout innerLayout → (before other image : List ℕ)
+      → Twelve (storedFor outerLayout innerLayout before other image)

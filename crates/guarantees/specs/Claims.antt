@@ -5,7 +5,7 @@ use Rattle.layout.specs.declared.Layout.{Layout}
 use Rattle.view.specs.declared.View.{View}
 use Rattle.guarantees.specs.Access.{AccessesByTable}
 use Rattle.guarantees.specs.Boundary.{TellsNumbers, ReturnsZero, OrdersNumbers, StoresAnswers}
-use Rattle.guarantees.specs.BoundaryRuns.{Numbers, CarriesRuns}
+use Rattle.guarantees.specs.BoundaryRuns.{Numbers, CarriesRuns, BeginsRuns}
 use Rattle.guarantees.specs.FromHeaders.{FromHeaders}
 use Rattle.guarantees.specs.Interleaving.{Demand3}
 use Rattle.guarantees.specs.Judging.{KeepsRules, JudgesExactly, GivesKeys}
@@ -41,6 +41,7 @@ pub record Claims : Type 0 where
   pub ordered : (host kind magic version program start size candidate protected first end lock : ℕ)
       → OrdersNumbers host kind magic version program start size candidate protected first end lock
   pub stored : (before : List ℕ) → StoresAnswers before
+  pub begun : (outerLayout innerLayout : Layout) → BeginsRuns outerLayout innerLayout
   pub carried : (numbers : Numbers) → CarriesRuns numbers
   -- the map program
   pub input : ReadsInput

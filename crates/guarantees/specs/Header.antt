@@ -46,7 +46,7 @@ pub record IsHeader (h : List ℕ) : Type 0 where
 unfoldable pub AllZero : List ℕ → Type 0
 AllZero bytes = (i : ℕ) → i < length bytes → getD bytes i 0 ≡ 0
 
--- one of the two kinds
+-- one of the two kinds; a made-up kind breaks the line of the hidden size
 abbrev pub KnownKind : ℕ → Type 0
 KnownKind kind = (kind ≡ standard) ⊎ (kind ≡ hidden)
 
@@ -83,8 +83,9 @@ Keeps reserved kind hostSize h = (fieldsAt h .flags / 4 ≡ 0) × (IsVera h → 
 Keeps flags kind hostSize h = fieldsAt h .flags % 4 ≡ 0
 Keeps sectorSize kind hostSize h = fieldsAt h .«sector_size» ≡ 512
 Keeps hiddenSize kind hostSize h =
-    (kind ≡ standard → fieldsAt h .«hidden_size» ≡ 0)
-    × (kind ≡ hidden → (fieldsAt h .«hidden_size» ≡ 0 → ⊥) × (fieldsAt h .«hidden_size» ≡ fieldsAt h .«data_size»))
+    KnownKind kind
+    × ((kind ≡ standard → fieldsAt h .«hidden_size» ≡ 0)
+    × (kind ≡ hidden → (fieldsAt h .«hidden_size» ≡ 0 → ⊥) × (fieldsAt h .«hidden_size» ≡ fieldsAt h .«data_size»)))
 Keeps dataArea kind hostSize h =
     DataArea kind hostSize (fieldsAt h .«data_start») (fieldsAt h .«data_size») (fieldsAt h .«encrypted_size»)
 

@@ -26,18 +26,16 @@ pub record KeepsRules : Type 0 where
       → (dataAreaRule kind hostSize start size ≡ true) ↔ (KnownKind kind × DataArea kind hostSize start size size)
   pub layouts : (layout : Layout) → (sound layout ≡ true) ↔ Sound layout
 
--- the judgement of one candidate by itself, for any bytes, any host size and any index
+-- the judgement of one candidate by itself, for any bytes, any kind, any host size and any index
 pub record JudgesExactly (kind hostSize index : ℕ) (h : List ℕ) : Type 0 where
   -- 4 for what is no header; only 512 bytes are
   pub otherLength : (length h ≡ 512 → ⊥) → judge kind hostSize index h ≡ Refused 4
   pub noHeader : (IsHeader h → ⊥) → judge kind hostSize index h ≡ Refused 4
   -- a header is refused by the first line that it breaks, and accepted where it keeps all
-  pub breaks : KnownKind kind → length h ≡ 512 → IsHeader h → (line : Line) → FirstBroken line kind hostSize h
+  pub breaks : length h ≡ 512 → IsHeader h → (line : Line) → FirstBroken line kind hostSize h
       → judge kind hostSize index h ≡ Refused (number line)
-  pub accepts : KnownKind kind → length h ≡ 512 → IsHeader h → ((line : Line) → Keeps line kind hostSize h)
+  pub accepts : length h ≡ 512 → IsHeader h → ((line : Line) → Keeps line kind hostSize h)
       → (layout : Layout) × (judge kind hostSize index h ≡ Accepted layout) × Tells kind hostSize index h layout
-  -- a kind that is neither is never accepted; by which number it is refused the rules leave free
-  pub otherKind : (KnownKind kind → ⊥) → (layout : Layout) → judge kind hostSize index h ≡ Accepted layout → ⊥
   -- the salt, bytes 0 to 63, is not looked at
   pub anySalt : (salt other rest : List ℕ) → length salt ≡ 64 → length other ≡ 64
       → judge kind hostSize index (salt ++ rest) ≡ judge kind hostSize index (other ++ rest)

@@ -1,6 +1,6 @@
 // The boundary for C and Rust: exported functions over numbers and slices, each thin over one public call
-// of the crates below. Every function but the checksum's returns 0 where it accepts, and else document
-// 01's refusal number. A refusal changes nothing that was passed for writing, but for 18, which closes
+// of the crates below. Every function but the checksum's returns 0 where it accepts, and else the
+// refusal number. A refusal changes nothing that was passed for writing, but for 18, which closes
 // the view's lock.
 // Assumes nothing; no public function has a `requires`.
 ghost use mathlib.Core.Path.{_≡_};

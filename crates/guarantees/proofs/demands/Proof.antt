@@ -1,7 +1,7 @@
 -- `guarantees::demands` meets its contract: every claim has its proof. Assumes nothing.
 use Rattle.guarantees.proofs.Access.{accesses-by-table}
 use Rattle.guarantees.proofs.Boundary.{tells-numbers, returns-zero, orders-numbers, stores-answers}
-use Rattle.guarantees.proofs.BoundaryRuns.{carries-runs}
+use Rattle.guarantees.proofs.BoundaryRuns.{carries-runs, begins-runs}
 use Rattle.guarantees.proofs.FromHeaders.{from-headers}
 use Rattle.guarantees.proofs.Interleaving.{demand-3}
 use Rattle.guarantees.proofs.Judging.{keeps-rules, judges-exactly, gives-keys}
@@ -34,6 +34,7 @@ returns c =
       zero = returns-zero;
       ordered = orders-numbers;
       stored = stores-answers;
+      begun = begins-runs;
       carried = carries-runs;
       input = reads-input;
       output = prints-lines;
