@@ -27,18 +27,22 @@ layoutNumbers layout =
     layout .«host_size» ∷ layout .kind ∷ layout .magic ∷ layout .version ∷ layout .«min_program_version» ∷ layout .«data_start»
     ∷ layout .«data_size» ∷ layout .candidate ∷ []
 
+-- the number at an index; the arrays that are passed have one at each index used below
+abbrev pub numberAt : ℕ → List ℕ → ℕ
+numberAt i numbers = getD numbers i 0
+
 -- the layout that eight numbers tell
 unfoldable pub layoutOf : List ℕ → Layout
 layoutOf numbers =
     record {
-      «host_size» = getD numbers 0 0;
-      kind = getD numbers 1 0;
-      magic = getD numbers 2 0;
-      version = getD numbers 3 0;
-      «min_program_version» = getD numbers 4 0;
-      «data_start» = getD numbers 5 0;
-      «data_size» = getD numbers 6 0;
-      candidate = getD numbers 7 0;
+      «host_size» = numberAt 0 numbers;
+      kind = numberAt 1 numbers;
+      magic = numberAt 2 numbers;
+      version = numberAt 3 numbers;
+      «min_program_version» = numberAt 4 numbers;
+      «data_start» = numberAt 5 numbers;
+      «data_size» = numberAt 6 numbers;
+      candidate = numberAt 7 numbers;
     }
 
 -- what is protected, as three numbers: 0 for nothing, else 1, the range's first byte and the byte past its end
@@ -59,8 +63,8 @@ unfoldable pub viewOf : List ℕ → View
 viewOf numbers =
     record {
       layout = layoutOf numbers;
-      protection = protectionOf (getD numbers 8 0) (getD numbers 9 0) (getD numbers 10 0);
-      locked = not (eqb (getD numbers 11 0) 0);
+      protection = protectionOf (numberAt 8 numbers) (numberAt 9 numbers) (numberAt 10 numbers);
+      locked = not (eqb (numberAt 11 numbers) 0);
     }
 
 -- what a location leaves: the header's offset, or the number as it was
