@@ -1,6 +1,6 @@
 """The files of `volmap`."""
 from .headers import header, SAMPLES, vera, vera_hidden
-from .document01 import map_output
+from .rules import map_output
 from .openings import HOST, ZEROS
 
 WORKED = '''\

@@ -2,7 +2,7 @@
 import zlib
 
 from .headers import changed, header, hidden, OTHER_KEYS, SAMPLES, vera, vera_hidden
-from .document01 import locate, open_volume
+from .rules import locate, open_volume
 
 HOST = 1_048_576
 M = header()

@@ -1,7 +1,7 @@
 """Views as the rules have them, and a model of reads and writes that goes sector by sector."""
 import zlib
 
-from .document01 import host_sector, is_sound, sector_count
+from .rules import host_sector, is_sound, sector_count
 from .openings import HOST
 from .sectors import layout
 

@@ -1,5 +1,5 @@
 """The cases of the sector map, and the files of `map_vectors`."""
-from .document01 import host_sector, is_sound, sector_count, tweak_block, user_sector
+from .rules import host_sector, is_sound, sector_count, tweak_block, user_sector
 from .openings import HOST
 
 
