@@ -2,7 +2,7 @@
 -- Assumes nothing.
 use Prim.Native.Nat.{ℕ}
 use native.Mathlib.Omega.{arith}
-use mathlib.Core.Path.{_≡_, refl}
+use mathlib.Core.Path.{_≡_, refl, _∙_}
 use mathlib.Core.Bool.{Bool}
 use mathlib.Core.List.{List, [], _∷_, _++_}
 use Rattle.layout.specs.Answer.{numberOf}
@@ -82,6 +82,6 @@ stores-answers before =
       view = λ view. rw (protection-stored (view .protection));
       viewBack = view-of-numbers;
       noView = λ number. refl;
-      closes = λ h. set-last before 11 1 h;
-      sameView = λ number f. rw (is-false (reflects-eqb number 18) f);
+      closes = λ image first count buffer written left h call. call .locks ∙ set-last before 11 1 h;
+      sameView = λ image first count buffer written left number f call. call .locks ∙ rw (is-false (reflects-eqb number 18) f);
     }

@@ -23,8 +23,8 @@ use Rattle.view.specs.declared.Protection.{Protection}
 use Rattle.view.specs.declared.Protection.the-variants.{Unprotected, Protected}
 use Rattle.view.specs.declared.View.{View}
 use Rattle.view.specs.declared.Viewed.the-variants as making
-use Rattle.ondristela.specs.Boundary.{layoutOf, viewOf}
-use Rattle.ondristela.specs.Boundary.{locatedLeft, openedLeft, keysLeft, mappedLeft, blockLeft, viewedLeft, viewLeft}
+use Rattle.ondristela.specs.Boundary.{layoutOf, viewOf, WriteCall}
+use Rattle.ondristela.specs.Boundary.{locatedLeft, openedLeft, keysLeft, mappedLeft, blockLeft, viewedLeft}
 
 -- every refusal is told by its own number, and every acceptance by 0
 pub record TellsNumbers : Type 0 where
@@ -113,5 +113,8 @@ pub record StoresAnswers (before : List ℕ) : Type 0 where
       → viewedLeft (making.Made view) before ≡ storedLayout (view .layout) ++ storedProtection (view .protection) ++ cond (view .locked) 1 0 ∷ []
   pub viewBack : (view : View) → viewOf (viewedLeft (making.Made view) before) ≡ view
   pub noView : (number : ℕ) → viewedLeft (making.Refused number) before ≡ before
-  pub closes : length before ≡ 12 → viewLeft 18 before ≡ take 11 before ++ (1 ∷ [])
-  pub sameView : (number : ℕ) → (number ≡ 18 → ⊥) → viewLeft number before ≡ before
+  -- a write's numbers: 18 closes the lock, and any other number leaves them as they were
+  pub closes : (image : List ℕ) (first count : ℕ) (buffer written left : List ℕ) → length before ≡ 12
+      → WriteCall before image first count buffer 18 written left → left ≡ take 11 before ++ (1 ∷ [])
+  pub sameView : (image : List ℕ) (first count : ℕ) (buffer written left : List ℕ) (number : ℕ) → (number ≡ 18 → ⊥)
+      → WriteCall before image first count buffer number written left → left ≡ before
