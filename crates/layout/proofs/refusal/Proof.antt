@@ -1,5 +1,6 @@
 -- `layout::refusal` meets its contract, by the cases of the answer.
 -- Assumes nothing.
+use mathlib.Core.Path.{refl}
 use borrow.Author.Needs.{needs}
 use Rattle.layout.specs.Answer.{numberOf}
 use Rattle.layout.proofs.refusal.Statement.{statement}
@@ -13,11 +14,11 @@ enum-known-opened c = search needs
 
 returns : tie.Need-returns
 unfolding numberOf
-returns c = search needs
+returns c = rw (c .enum-told .given .1) refl
 
 returns-2 : tie.Need-returns-2
 unfolding numberOf
-returns-2 c = search needs
+returns-2 c = rw (c .before .opened .given .1) refl
 
 pub refusal-spec : {M : Type 1} → statement M
 refusal-spec = tie.close (tie.spec enum-told enum-known-opened returns returns-2)

@@ -1,5 +1,6 @@
 -- `map_output::last_sector` meets its contract.
 -- Assumes nothing.
+use mathlib.Core.Path.{refl}
 use borrow.Author.Needs.{needs}
 use Rattle.sector_map.specs.SectorMap.{sectors, firstSector}
 use Rattle.map_output.specs.MapOutput.{lastSector}
@@ -18,7 +19,7 @@ returns c = search needs
 
 returns-2 : tie.Need-returns-2
 unfolding lastSector sectors firstSector
-returns-2 c = search needs
+returns-2 c = refl
 
 pub last-sector-spec : {M : Type 1} → statement M
 last-sector-spec = tie.close (tie.spec sub-result add-result returns returns-2)

@@ -1,5 +1,6 @@
 -- `view::answer_refusal` meets its contract, by the cases of the answer.
 -- Assumes nothing.
+use mathlib.Core.Path.{refl}
 use borrow.Author.Needs.{needs}
 use Rattle.view.specs.Access.{answerNumber}
 use Rattle.view.proofs.answer_refusal.Statement.{statement}
@@ -13,11 +14,11 @@ enum-known-answer c = search needs
 
 returns : tie.Need-returns
 unfolding answerNumber
-returns c = search needs
+returns c = rw (c .enum-told .given .1) refl
 
 returns-2 : tie.Need-returns-2
 unfolding answerNumber
-returns-2 c = search needs
+returns-2 c = rw (c .before .answer .given .1) refl
 
 pub answer-refusal-spec : {M : Type 1} → statement M
 answer-refusal-spec = tie.close (tie.spec enum-told enum-known-answer returns returns-2)

@@ -1,5 +1,6 @@
 -- `view::refusal` meets its contract, by the cases of the answer.
 -- Assumes nothing.
+use mathlib.Core.Path.{refl}
 use borrow.Author.Needs.{needs}
 use Rattle.view.specs.Views.{viewedRefusal}
 use Rattle.view.proofs.refusal.Statement.{statement}
@@ -13,11 +14,11 @@ enum-known-viewed c = search needs
 
 returns : tie.Need-returns
 unfolding viewedRefusal
-returns c = search needs
+returns c = rw (c .enum-told .given .1) refl
 
 returns-2 : tie.Need-returns-2
 unfolding viewedRefusal
-returns-2 c = search needs
+returns-2 c = rw (c .before .viewed .given .1) refl
 
 pub refusal-spec : {M : Type 1} → statement M
 refusal-spec = tie.close (tie.spec enum-told enum-known-viewed returns returns-2)
