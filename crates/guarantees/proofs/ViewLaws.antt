@@ -1,6 +1,7 @@
 -- The test of a view's soundness reflects what the guarantees say of it.
 -- Assumes nothing.
 use Prim.Native.Nat.{suc, _%_}
+use native.Mathlib.Omega.{arith}
 use Rattle.layout.specs.Rules.{standard}
 use Rattle.layout.specs.declared.Layout.{Layout}
 use Rattle.view.specs.Views.{areaEnd, protectionRule, soundView}
@@ -22,10 +23,10 @@ range-reflects layout (Protected first end) =
       firstMultiple = p .0 .0 .0 .0 .1;
       endMultiple = p .0 .0 .0 .1;
       notEmpty = p .0 .0 .1;
-      starts = p .0 .1;
-      ends = p .1;
+      starts = omega (arith, p .0 .1);
+      ends = omega (arith, p .1);
     })
-    (λ r. (((((r .standardVolume, r .firstMultiple), r .endMultiple), r .notEmpty), r .starts), r .ends))
+    (λ r. (((((r .standardVolume, r .firstMultiple), r .endMultiple), r .notEmpty), omega (arith, r .starts)), omega (arith, r .ends)))
     (reflects-and
     (reflects-and
     (reflects-and

@@ -40,6 +40,7 @@ module _ (view : View) (image : List ℕ) (first count : ℕ) (buffer : List ℕ
   abbrev pub touch : Bool
   touch = anyInRange (view .protection) hosts
 
+  -- the refusal number of a read, and of a write
   abbrev pub readBy : ℕ
   readBy = readNumber view (length image) first count (length buffer)
 
