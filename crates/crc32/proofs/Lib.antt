@@ -1,4 +1,3 @@
 pub mod StepLaws
 pub mod TableLaws
 pub mod WordLaws
-pub mod XorLaws

@@ -10,8 +10,8 @@ use lib.ListN.{length}
 use lib.Pow.{split, pow-pos}
 use Rattle.numbers.specs.Numbers.{littleEndian}
 use Rattle.crc32.specs.Crc32.{bitStep, bitSteps, crcFrom}
-use Rattle.crc32.specs.Tables.{Bytes}
-use Rattle.crc32.proofs.XorLaws.{digit-lt, xor-half, xor-odd, xor-exchange, xor-assoc}
+use Rattle.bits.specs.Bits.{Bytes}
+use Rattle.bits.proofs.XorLaws.{digit-lt, xor-half, xor-odd, xor-exchange, xor-assoc}
 
 -- ---- the steps are linear
 

@@ -1,29 +1,19 @@
 -- The tables hold what they are named for, and one entry of each stands for a byte of a word.
 -- Assumes nothing.
-use mathlib.Core.Path.{_≡_, refl, sym, ap, ap₂, _∙_}
+use mathlib.Core.Path.{_≡_, sym, ap, ap₂, _∙_}
 use mathlib.Core.List.{List, _++_, map}
 use Prim.Native.Nat.{ℕ, zero, suc, _+_, _*_, _/_, _%_, _^_, _<_}
-use native.Mathlib.Nat.{mod-lt, zero-add, add-zero, add-suc, suc-add, not-suc-le-zero, le-of-suc-le-suc}
+use native.Mathlib.Nat.{mod-lt, zero-add}
 use native.Mathlib.Omega.{arith}
 use lib.Bits.{bitXor}
 use lib.ListN.{length, length-map, getD, List·getD-map, List·getD-append}
 use lib.Pow.{pow-pos}
 use lib.Seq.{getD-append-add}
+use Rattle.bits.specs.Bits.{entries}
+use Rattle.bits.proofs.EntriesLaws.{length-entries, entries-at}
 use Rattle.crc32.specs.Crc32.{bitStep, bitSteps}
-use Rattle.crc32.specs.Tables.{entries, tablesFrom, crcTables}
+use Rattle.crc32.specs.Tables.{tablesFrom, crcTables}
 use Rattle.crc32.proofs.StepLaws.{bit-steps-add, bit-steps-split, bit-steps-byte}
-
-entries-at : (f : ℕ → ℕ) (n k i : ℕ) → i < n → getD (entries f n k) i 0 ≡ f (k + i)
-unfolding entries
-entries-at f zero k i h = absurd (not-suc-le-zero h)
-entries-at f (suc n) k zero h = ap f (sym (add-zero k))
-entries-at f (suc n) k (suc i) h =
-    entries-at f n (suc k) i (le-of-suc-le-suc h) ∙ ap f (suc-add k i ∙ sym (add-suc k i))
-
-length-entries : (f : ℕ → ℕ) (n k : ℕ) → length (entries f n k) ≡ n
-unfolding entries
-length-entries f zero k = refl
-length-entries f (suc n) k = ap suc (length-entries f n (suc k))
 
 next-at : (t : List ℕ) (i : ℕ) → getD (map (bitSteps 8) t) i 0 ≡ bitSteps 8 (getD t i 0)
 unfolding bitSteps bitStep
@@ -52,7 +42,7 @@ pub table-at : (k i : ℕ) → k < 4 → i < 256 → getD crcTables (k * 256 + i
 unfolding crcTables
 table-at k i few small =
     tables-from-at 4 k (entries (bitSteps 8) 256 0) i (length-entries (bitSteps 8) 256 0) few small
-    ∙ ap (bitSteps (k * 8)) (entries-at (bitSteps 8) 256 0 i small ∙ ap (bitSteps 8) (zero-add i))
+    ∙ ap (bitSteps (k * 8)) (entries-at (bitSteps 8) 0 256 0 i small ∙ ap (bitSteps 8) (zero-add i))
     ∙ sym (bit-steps-add 8 (k * 8) i)
 
 -- entry i of the first table

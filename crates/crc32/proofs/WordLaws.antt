@@ -9,8 +9,9 @@ use lib.Bits.{bitXor}
 use lib.ListN.{length, getD, take, drop, drop-of-length-le, length-drop, take-append-drop}
 use lib.Seq.{drop-cons, take-length}
 use Rattle.numbers.specs.Numbers.{littleEndian}
+use Rattle.bits.specs.Bits.{Bytes}
 use Rattle.crc32.specs.Crc32.{bitSteps, crcFrom}
-use Rattle.crc32.specs.Tables.{crcTables, Bytes}
+use Rattle.crc32.specs.Tables.{crcTables}
 use Rattle.crc32.proofs.StepLaws.{crc-from-append, crc-from-word}
 use Rattle.crc32.proofs.TableLaws.{table-byte}
 

@@ -4,9 +4,10 @@ ghost use mathlib.Core.Path.{_≡_};
 ghost use mathlib.Core.List.{[], _∷_};
 ghost use Prim.Native.Nat.{_+_, _%_, _≤_, _<_};
 ghost use lib.ListN.{length, take, drop};
+ghost use Rattle.bits.specs.Bits.{Bytes};
 ghost use Rattle.numbers.specs.Numbers.{littleEndian};
 ghost use Rattle.crc32.specs.Crc32.{bitSteps, crcFrom, crc32};
-ghost use Rattle.crc32.specs.Tables.{crcTables, Bytes};
+ghost use Rattle.crc32.specs.Tables.{crcTables};
 
 mod tables;
 

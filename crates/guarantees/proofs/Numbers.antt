@@ -11,7 +11,7 @@ use Rattle.numbers.specs.Numbers.{bigEndian, bigEndianFrom, littleEndian}
 use Rattle.numbers.proofs.NumbersLaws.{big-endian-snoc}
 use Rattle.numbers.proofs.WrittenLaws.{little-endian-bytes-length, little-endian-bytes-lt, little-endian-bytes-spell}
 use Rattle.crc32.specs.Crc32.{crc32, crcFrom, bitSteps, bitStep}
-use Rattle.crc32.proofs.XorLaws.{xor-cancel-left}
+use Rattle.bits.proofs.XorLaws.{xor-cancel-left}
 use Rattle.crc32.proofs.StepLaws.{crc-from-append}
 use Rattle.guarantees.specs.Numbers.{SpellsNumbers, ChecksBytes, oneBit, register}
 

@@ -2,7 +2,8 @@
 -- Assumes nothing.
 use mathlib.Core.Path.{refl}
 use Rattle.crc32.specs.Crc32.{bitStep, bitSteps}
-use Rattle.crc32.specs.Tables.{entries, tablesFrom, crcTables}
+use Rattle.crc32.specs.Tables.{tablesFrom, crcTables}
+use Rattle.bits.specs.Bits.{entries}
 use Rattle.crc32.proofs.crc_tables.Statement.{statement}
 use Rattle.crc32.proofs.crc_tables.Tie as tie
 
