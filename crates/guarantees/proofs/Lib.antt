@@ -10,6 +10,7 @@ pub mod CheckLaws
 pub mod CoversLaws
 pub mod DecimalLaws
 pub mod ExtentLaws
+pub mod Extents
 pub mod FoundLaws
 pub mod FromHeaders
 pub mod GatherLaws

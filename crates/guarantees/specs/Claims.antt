@@ -1,11 +1,13 @@
 -- Every claim, for all arguments: what the contract of `guarantees::demands` cites. Assumes nothing.
 use Prim.Native.Nat.{ℕ}
 use mathlib.Core.List.{List}
+use Rattle.extent.specs.declared.Extent.{Extent}
 use Rattle.layout.specs.declared.Layout.{Layout}
 use Rattle.view.specs.declared.View.{View}
 use Rattle.guarantees.specs.Access.{AccessesByTable}
 use Rattle.guarantees.specs.Boundary.{TellsNumbers, ReturnsZero, OrdersNumbers, StoresAnswers}
 use Rattle.guarantees.specs.BoundaryRuns.{Numbers, CarriesRuns, BeginsRuns}
+use Rattle.guarantees.specs.Extents.{SharesLeast}
 use Rattle.guarantees.specs.FromHeaders.{FromHeaders}
 use Rattle.guarantees.specs.Interleaving.{Demand3}
 use Rattle.guarantees.specs.Judging.{KeepsRules, JudgesExactly, GivesKeys}
@@ -21,6 +23,7 @@ pub record Claims : Type 0 where
   pub numbers : SpellsNumbers
   pub checksum : ChecksBytes
   pub rules : KeepsRules
+  pub extents : (a b : Extent) → SharesLeast a b
   -- demand 2: headers, opening and the sector map
   pub judges : (kind hostSize index : ℕ) (h : List ℕ) → JudgesExactly kind hostSize index h
   pub locates : (hostSize : ℕ) → LocatesHeaders hostSize

@@ -2,6 +2,7 @@ pub mod Access
 pub mod Boundary
 pub mod BoundaryRuns
 pub mod Claims
+pub mod Extents
 pub mod FromHeaders
 pub mod Header
 pub mod Interleaving

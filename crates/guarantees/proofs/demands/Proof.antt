@@ -2,6 +2,7 @@
 use Rattle.guarantees.proofs.Access.{accesses-by-table}
 use Rattle.guarantees.proofs.Boundary.{tells-numbers, returns-zero, orders-numbers, stores-answers}
 use Rattle.guarantees.proofs.BoundaryRuns.{carries-runs, begins-runs}
+use Rattle.guarantees.proofs.Extents.{shares-least}
 use Rattle.guarantees.proofs.FromHeaders.{from-headers}
 use Rattle.guarantees.proofs.Interleaving.{demand-3}
 use Rattle.guarantees.proofs.Judging.{keeps-rules, judges-exactly, gives-keys}
@@ -20,6 +21,7 @@ returns c =
       numbers = spells-numbers;
       checksum = checks-bytes;
       rules = keeps-rules;
+      extents = shares-least;
       judges = judges-exactly;
       locates = locates-headers;
       opens = opens-exactly-when;
