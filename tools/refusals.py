@@ -1,10 +1,8 @@
 #!/usr/bin/env python3
-"""Writes the refusals of refusals.txt into the C header, the Rust crate and README.
+"""Writes the refusals of refusals.txt into the C header, the Rust crate and README, between their markers.
 
     tools/refusals.py            write the files
     tools/refusals.py --check    write nothing; fail where a file is not what would be written
-
-README.md is left alone as long as it has no markers.
 """
 import re
 import sys
@@ -38,8 +36,8 @@ def parse_record(text):
 
 
 def check_numbers(records):
-    if [record['number'] for record in records] != [str(number) for number in range(1, 19)]:
-        sys.exit('refusals.txt: the numbers are not 1 to 18 in order')
+    if [record['number'] for record in records] != [str(number) for number in range(1, len(records) + 1)]:
+        sys.exit('refusals.txt: the numbers are not 1, 2, 3 and so on')
 
 
 def sentence_case(text):
@@ -83,110 +81,55 @@ def rust_arm(record):
     return f'{arm}{{\n{" " * 16}"{literal}"\n            }}\n'
 
 
-def rust_file(records):
-    variants = ''.join(rust_variant(record) for record in records)
-    all_variants = ''.join(f'        Refusal::{record["variant"]},\n' for record in records)
-    sentences = ''.join(rust_arm(record) for record in records)
-    return f'''\
-//! The refusals. Written by tools/refusals.py from refusals.txt: edit that file and not this one.
+def rust_match(records):
+    return f'        match self {{\n{"".join(map(rust_arm, records))}        }}\n'
 
-use std::fmt;
 
-/// Why a call was refused. A refused call has changed nothing, except that `Protected` locks the view.
-/// docs/RULES.md has the table of refusals, and the order in which a call tests them.
-///
-/// ```
-/// use ondristela::{{Location, Refusal}};
-///
-/// let refusal = Location::Standard.offset(1000).unwrap_err();
-/// assert_eq!(refusal, Refusal::HostSize);
-/// assert_eq!(
-///     refusal.to_string(),
-///     "{records[2]["sentence"]} (refusal 3)"
-/// );
-/// ```
-#[derive(Clone, Copy, Debug, PartialEq, Eq, Hash)]
-#[repr(u8)]
-pub enum Refusal {{
-{variants}}}
-
-impl Refusal {{
-    /// All eighteen, in the order of their numbers.
-    pub const ALL: [Refusal; 18] = [
-{all_variants}    ];
-
-    /// Its number, 1 to 18.
-    pub fn number(self) -> u8 {{
-        self as u8
-    }}
-
-    /// The refusal that has this number, if one has.
-    pub fn from_number(number: u64) -> Option<Refusal> {{
-        Refusal::ALL.into_iter().find(|refusal| u64::from(refusal.number()) == number)
-    }}
-
-    /// When the refusal is given, and what can be done about it.
-    fn sentence(self) -> &'static str {{
-        match self {{
-{sentences}        }}
-    }}
-
-    /// What an answer of the library says: 0 is an acceptance, any other number a refusal.
-    ///
-    /// The library is proved to answer nothing but 0 and the eighteen numbers. Another number can only
-    /// come from a library that this crate was not made for, and panics.
-    pub(crate) fn check(answer: u64) -> Result<(), Refusal> {{
-        if answer == 0 {{
-            return Ok(());
-        }}
-        match Refusal::from_number(answer) {{
-            Some(refusal) => Err(refusal),
-            None => panic!("libondristela.a answered {{answer}}: it and this crate do not fit together"),
-        }}
-    }}
-}}
-
-impl fmt::Display for Refusal {{
-    fn fmt(&self, formatter: &mut fmt::Formatter<'_>) -> fmt::Result {{
-        write!(formatter, "{{}} (refusal {{}})", self.sentence(), self.number())
-    }}
-}}
-
-impl std::error::Error for Refusal {{}}
-'''
+def rust_list(records):
+    variants = ''.join(f'        Refusal::{record["variant"]},\n' for record in records)
+    return f'    pub const ALL: [Refusal; {len(records)}] = [\n{variants}    ];\n'
 
 
 # The files.
 
-def replaced(path, markers, block):
-    """The file's text with the block between its markers."""
+def rust_markers(indent, what):
+    return f'{indent}// {what}: written by tools/refusals.py from refusals.txt\n', f'{indent}// end of {what}\n'
+
+
+def blocks(records):
+    """What stands between markers: for each file, pairs of the markers and what they hold."""
+    return {
+        'include/ondristela.h': [(C_MARKERS, c_block(records))],
+        'README.md': [(README_MARKERS, readme_block(records))],
+        'rust/src/refusal.rs': [
+            (rust_markers(' ' * 4, 'variants'), ''.join(map(rust_variant, records))),
+            (rust_markers(' ' * 4, 'list'), rust_list(records)),
+            (rust_markers(' ' * 8, 'sentences'), rust_match(records)),
+        ],
+    }
+
+
+def replaced(name, text, markers, block):
+    """A file's text with the block between its markers."""
     begin, end = markers
-    text = path.read_text()
     if text.count(begin) != 1 or text.count(end) != 1 or text.index(begin) > text.index(end):
-        sys.exit(f'{path.relative_to(ROOT)} does not have these two lines, each once:\n{begin}{end}')
+        sys.exit(f'{name} does not have these two lines, each once:\n{begin}{end}')
     return text[:text.index(begin)] + begin + block + text[text.index(end):]
-
-
-def header_file(records):
-    path = ROOT / 'include/ondristela.h'
-    return {path: replaced(path, C_MARKERS, c_block(records))}
-
-
-def readme_file(records):
-    path = ROOT / 'README.md'
-    if not any(marker in path.read_text() for marker in README_MARKERS):
-        return {}
-    return {path: replaced(path, README_MARKERS, readme_block(records))}
 
 
 def written(records):
     """The whole content of each file, by path."""
-    rust = {ROOT / 'rust/src/refusal.rs': rust_file(records)}
-    return {**rust, **header_file(records), **readme_file(records)}
+    files = {}
+    for name, parts in blocks(records).items():
+        text = (ROOT / name).read_text()
+        for markers, block in parts:
+            text = replaced(name, text, markers, block)
+        files[ROOT / name] = text
+    return files
 
 
 def check(files):
-    wrong = [path for path, text in files.items() if not path.is_file() or path.read_text() != text]
+    wrong = [path for path, text in files.items() if path.read_text() != text]
     for path in wrong:
         print(f'{path.relative_to(ROOT)} is not what tools/refusals.py writes')
     sys.exit(1 if wrong else 0)

@@ -1,4 +1,4 @@
-//! The refusals. Written by tools/refusals.py from refusals.txt: edit that file and not this one.
+//! The refusals. What stands between markers is in refusals.txt: edit that file, and run tools/refusals.py.
 
 use std::fmt;
 
@@ -18,6 +18,7 @@ use std::fmt;
 #[derive(Clone, Copy, Debug, PartialEq, Eq, Hash)]
 #[repr(u8)]
 pub enum Refusal {
+    // variants: written by tools/refusals.py from refusals.txt
     /// The candidates are not 1 to 64 headers of 512 bytes, with one location code for each.
     Lengths = 1,
     /// A location code is above 3; the codes are 0 standard, 1 hidden, 2 standard backup, 3 hidden
@@ -67,10 +68,12 @@ pub enum Refusal {
     /// A sector of the write lies in the protected range, which holds the hidden volume; nothing was
     /// written, and the view now refuses every write.
     Protected = 18,
+    // end of variants
 }
 
 impl Refusal {
-    /// All eighteen, in the order of their numbers.
+    /// All, in the order of their numbers.
+    // list: written by tools/refusals.py from refusals.txt
     pub const ALL: [Refusal; 18] = [
         Refusal::Lengths,
         Refusal::Code,
@@ -91,8 +94,9 @@ impl Refusal {
         Refusal::Locked,
         Refusal::Protected,
     ];
+    // end of list
 
-    /// Its number, 1 to 18.
+    /// Its number, from 1 on.
     pub fn number(self) -> u8 {
         self as u8
     }
@@ -104,6 +108,7 @@ impl Refusal {
 
     /// When the refusal is given, and what can be done about it.
     fn sentence(self) -> &'static str {
+        // sentences: written by tools/refusals.py from refusals.txt
         match self {
             Refusal::Lengths => {
                 "the candidates are not 1 to 64 headers of 512 bytes, with one location code for each"
@@ -165,12 +170,13 @@ impl Refusal {
                  was written, and the view now refuses every write"
             }
         }
+        // end of sentences
     }
 
     /// What an answer of the library says: 0 is an acceptance, any other number a refusal.
     ///
-    /// The library is proved to answer nothing but 0 and the eighteen numbers. Another number can only
-    /// come from a library that this crate was not made for, and panics.
+    /// The library is proved to answer nothing but 0 and these numbers. Another number can only come from
+    /// a library that this crate was not made for, and panics.
     pub(crate) fn check(answer: u64) -> Result<(), Refusal> {
         if answer == 0 {
             return Ok(());
