@@ -7,9 +7,10 @@
 import re
 import sys
 import textwrap
-from pathlib import Path
 
-ROOT = Path(__file__).resolve().parent.parent
+import marked
+from marked import ROOT
+
 KEYS = ['number', 'constant', 'variant', 'sentence']
 WIDTH = 110
 
@@ -109,42 +110,10 @@ def blocks(records):
     }
 
 
-def replaced(name, text, markers, block):
-    """A file's text with the block between its markers."""
-    begin, end = markers
-    if text.count(begin) != 1 or text.count(end) != 1 or text.index(begin) > text.index(end):
-        sys.exit(f'{name} does not have these two lines, each once:\n{begin}{end}')
-    return text[:text.index(begin)] + begin + block + text[text.index(end):]
-
-
-def written(records):
-    """The whole content of each file, by path."""
-    files = {}
-    for name, parts in blocks(records).items():
-        text = (ROOT / name).read_text()
-        for markers, block in parts:
-            text = replaced(name, text, markers, block)
-        files[ROOT / name] = text
-    return files
-
-
-def check(files):
-    wrong = [path for path, text in files.items() if path.read_text() != text]
-    for path in wrong:
-        print(f'{path.relative_to(ROOT)} is not what tools/refusals.py writes')
-    sys.exit(1 if wrong else 0)
-
-
 def main():
     records = parse((ROOT / 'refusals.txt').read_text())
     check_numbers(records)
-    files = written(records)
-    if sys.argv[1:] == ['--check']:
-        check(files)
-    if sys.argv[1:]:
-        sys.exit(__doc__)
-    for path, text in files.items():
-        path.write_text(text)
+    marked.run(blocks(records), 'tools/refusals.py', __doc__)
 
 
 if __name__ == '__main__':
