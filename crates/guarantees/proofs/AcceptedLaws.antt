@@ -12,7 +12,7 @@ use Rattle.layout.specs.Rules.{sectorBytes, hostSizeRule, startRule, endRule, d
 use Rattle.layout.specs.Soundness.{sound}
 use Rattle.layout.specs.declared.Layout.{Layout}
 use Rattle.sector_map.specs.SectorMap.{sectors, firstSector}
-use Rattle.guarantees.specs.ReferenceModel.{Side, outer, hidden, Turn, Model, lockOf, layoutOf, hostsOf, touched, judged}
+use Rattle.guarantees.specs.ReferenceModel.{Side, outer, hidden, Turn, Model, lockOf, sideLayout, hostsOf, touched, judged}
 use Rattle.guarantees.specs.Table.{writes, check, later, tabled}
 use Rattle.guarantees.proofs.NestLaws.{Nest}
 use Rattle.guarantees.proofs.Reflects.{is-true}
@@ -40,25 +40,25 @@ sectors-fit layout kept =
           (and-true-right (leb sectorBytes area && eqb (area % sectorBytes) 0 && eqb (start % sectorBytes) 0 && startRule (layout .kind) start) (endRule size start area) fits),
     )
 
-module _ (outerLayout innerLayout : Layout) where
+module _ (outerLayout hiddenLayout : Layout) where
   -- the checks of an accepted call
   pub record Accepted (turn : Turn) (model : Model) : Type 0 where
-    pub fits : length (model .image) ≡ layoutOf outerLayout innerLayout (turn .side) .«host_size»
+    pub fits : length (model .image) ≡ sideLayout outerLayout hiddenLayout (turn .side) .«host_size»
     pub whole : length (turn .call .buffer) ≡ turn .call .count * 512
-    pub inside : turn .call .first + turn .call .count ≤ sectors (layoutOf outerLayout innerLayout (turn .side))
+    pub inside : turn .call .first + turn .call .count ≤ sectors (sideLayout outerLayout hiddenLayout (turn .side))
     pub laterKept : later (turn .call .kind) (lockOf (turn .side) model)
-        (touched outerLayout innerLayout (turn .side) (hostsOf outerLayout innerLayout turn)) ≡ 0
+        (touched outerLayout hiddenLayout (turn .side) (hostsOf outerLayout hiddenLayout turn)) ≡ 0
 
-  pub accepted : (turn : Turn) (model : Model) → judged outerLayout innerLayout turn model ≡ 0 → Accepted turn model
+  pub accepted : (turn : Turn) (model : Model) → judged outerLayout hiddenLayout turn model ≡ 0 → Accepted turn model
   unfolding judged tabled sectors
   accepted turn model answer =
-      let layout = layoutOf outerLayout innerLayout (turn .side) in
+      let layout = sideLayout outerLayout hiddenLayout (turn .side) in
       let call = turn .call in
       let kept =
       lines-kept (eqb (length (model .image)) (layout .«host_size»)) (leb (call .count) 128) (eqb (length (call .buffer)) (call .count * 512))
       (leb (call .first + call .count) (layout .«data_size» / 512))
       (later (call .kind) (lockOf (turn .side) model)
-      (touched outerLayout innerLayout (turn .side) (hostsOf outerLayout innerLayout turn))) answer in
+      (touched outerLayout hiddenLayout (turn .side) (hostsOf outerLayout hiddenLayout turn))) answer in
       record {
         fits = eqb-true (length (model .image)) (layout .«host_size») (kept .0);
         whole = eqb-true (length (call .buffer)) (call .count * 512) (kept .1);
@@ -75,24 +75,24 @@ module _ (outerLayout innerLayout : Layout) where
 
   -- the first host sector of an extent
   unfoldable pub firstHost : Turn → ℕ
-  firstHost turn = firstSector (layoutOf outerLayout innerLayout (turn .side)) + turn .call .first
+  firstHost turn = firstSector (sideLayout outerLayout hiddenLayout (turn .side)) + turn .call .first
 
-  module _ (nest : Nest outerLayout innerLayout) where
-    pub nest-sound : (side : Side) → sound (layoutOf outerLayout innerLayout side) ≡ true
-    unfolding layoutOf
+  module _ (nest : Nest outerLayout hiddenLayout) where
+    pub nest-sound : (side : Side) → sound (sideLayout outerLayout hiddenLayout side) ≡ true
+    unfolding sideLayout
     nest-sound outer = is-true (sound-reflects outerLayout) (nest .outerSound)
-    nest-sound hidden = is-true (sound-reflects innerLayout) (nest .innerSound)
+    nest-sound hidden = is-true (sound-reflects hiddenLayout) (nest .hiddenSound)
 
     module _ (turn : Turn) (model : Model) (kept : Accepted turn model) where
-      pub hosts-consecutive : hostsOf outerLayout innerLayout turn ≡ consecutive (firstHost turn) (turn .call .count)
+      pub hosts-consecutive : hostsOf outerLayout hiddenLayout turn ≡ consecutive (firstHost turn) (turn .call .count)
       unfolding hostsOf firstHost
       hosts-consecutive =
-          covers-consecutive (layoutOf outerLayout innerLayout (turn .side)) (nest-sound (turn .side)) (turn .call .first) (turn .call .count) (kept .inside)
+          covers-consecutive (sideLayout outerLayout hiddenLayout (turn .side)) (nest-sound (turn .side)) (turn .call .first) (turn .call .count) (kept .inside)
 
       pub hosts-inside : (firstHost turn + turn .call .count) * 512 ≤ length (model .image)
       unfolding firstHost
       hosts-inside =
-          let fit = sectors-fit (layoutOf outerLayout innerLayout (turn .side)) (nest-sound (turn .side)) in
+          let fit = sectors-fit (sideLayout outerLayout hiddenLayout (turn .side)) (nest-sound (turn .side)) in
           let fits = kept .fits in
           let inside = kept .inside in
           omega arith

@@ -7,7 +7,7 @@ use mathlib.Core.Logic.{inr}
 use mathlib.Core.List.{List, [], _∷_}
 use lib.Dec.{leb, eqb}
 use lib.ListN.{length}
-use Rattle.layout.specs.Answer.{line}
+use Rattle.answers.specs.Answers.{line}
 use Rattle.layout.specs.declared.Layout.{Layout}
 use Rattle.sector_map.specs.SectorMap.{sectors}
 use Rattle.view.specs.Access.{checked, touches, readNumber, writeNumber, answered, after}
@@ -30,8 +30,8 @@ use Rattle.guarantees.proofs.TouchLaws.{reflects-same, is-number-reflec
 use Rattle.guarantees.proofs.ViewLaws.{view-reflects}
 
 -- a protected range as a hidden volume's data area
-abbrev innerOf : Layout → ℕ → ℕ → Layout
-innerOf layout first end =
+abbrev hiddenOf : Layout → ℕ → ℕ → Layout
+hiddenOf layout first end =
     record {
       «host_size» = layout .«host_size»;
       kind = 1;
@@ -44,8 +44,8 @@ innerOf layout first end =
     }
 
 module _ (layout : Layout) (s : Sound layout) (first end : ℕ) (r : ProtectedRange layout first end) where
-  inner-sound : Sound (innerOf layout first end)
-  inner-sound =
+  hiddenLayout-sound : Sound (hiddenOf layout first end)
+  hiddenLayout-sound =
       let start = sound-start layout s in
       record {
         size = s .size;
@@ -62,15 +62,15 @@ module _ (layout : Layout) (s : Sound layout) (first end : ℕ) (r : ProtectedRa
             };
       }
 
-  in-range-same : (host : ℕ) → isProtected (innerOf layout first end) host ≡ inRange (Protected first end) host
+  in-range-same : (host : ℕ) → isProtected (hiddenOf layout first end) host ≡ inRange (Protected first end) host
   unfolding isProtected inRange
   in-range-same host =
-      reflects-same (is-number-reflects (user-sector-answers (innerOf layout first end) inner-sound host))
+      reflects-same (is-number-reflects (user-sector-answers (hiddenOf layout first end) hiddenLayout-sound host))
       (reflects-map (λ p. record { starts = p .0; ends = omega (arith, r .firstMultiple, r .endMultiple, r .notEmpty, p .1) })
       (λ i. (i .starts, omega (arith, r .notEmpty, i .ends)))
       (reflects-and (reflects-leb first (host * 512)) (reflects-leb (suc (host * 512)) end)))
 
-  any-in-range-same : (hosts : List ℕ) → anyProtected (innerOf layout first end) hosts ≡ anyInRange (Protected first end) hosts
+  any-in-range-same : (hosts : List ℕ) → anyProtected (hiddenOf layout first end) hosts ≡ anyInRange (Protected first end) hosts
   unfolding anyProtected anyInRange
   any-in-range-same [] = refl
   any-in-range-same (host ∷ hosts) = rw (in-range-same host, any-in-range-same hosts)
@@ -79,7 +79,7 @@ module _ (layout : Layout) (s : Sound layout) (first end : ℕ) (r : ProtectedRa
   unfolding areaEnd
   touches-any u n inside =
       let past : first + (end - first) ≡ end = omega (arith, r .notEmpty) in
-      (rw past at (touches-any-protected (innerOf layout first end) inner-sound layout s u n inside)) ∙ any-in-range-same (covers layout u n)
+      (rw past at (touches-any-protected (hiddenOf layout first end) hiddenLayout-sound layout s u n inside)) ∙ any-in-range-same (covers layout u n)
 
 none-in-range : (hosts : List ℕ) → anyInRange Unprotected hosts ≡ false
 unfolding anyInRange inRange

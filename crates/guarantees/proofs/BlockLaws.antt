@@ -9,7 +9,7 @@ use lib.Seq.{take-at, drop-at}
 use Rattle.numbers.specs.Numbers.{littleEndian, littleEndianBytes}
 use Rattle.numbers.proofs.WrittenLaws.{little-endian-bytes-length, little-endian-bytes-lt, little-endian-bytes-spell, little-endian-bytes-pad}
 use Rattle.sector_map.specs.SectorMap.{blockOf}
-use Rattle.sector_map.specs.declared.Mapped.the-variants.{Number}
+use Rattle.answers.specs.declared.Numbered.the-variants.{Number}
 use Rattle.guarantees.specs.SectorMap.{IsBlock}
 
 pub block-of-number : (number : ℕ) → number < 256 ^ 8 → IsBlock number (blockOf (Number number))

@@ -5,18 +5,17 @@ use native.Mathlib.Omega.{arith}
 use mathlib.Core.Path.{_≡_, refl, _∙_}
 use mathlib.Core.Bool.{Bool}
 use mathlib.Core.List.{List, [], _∷_, _++_}
-use Rattle.layout.specs.Answer.{numberOf}
+use Rattle.answers.specs.Answers.{numberedRefusal, answerRefusal}
+use Rattle.layout.specs.Opened.{openedRefusal}
 use Rattle.layout.specs.declared.Layout.{Layout}
-use Rattle.opening.specs.Locations.{locatedNumber}
 use Rattle.opening.specs.Opening.{keysOffset, keysSize}
 use Rattle.opening.proofs.OpenedLaws.{opened-inside}
-use Rattle.sector_map.specs.SectorMap.{tweakOf, tweakNumber, mappedRefusal}
-use Rattle.view.specs.Access.{answerNumber}
+use Rattle.sector_map.specs.SectorMap.{tweakOf, tweakNumber}
 use Rattle.view.specs.Views.{viewedRefusal}
 use Rattle.view.specs.declared.Protection.{Protection}
 use Rattle.view.specs.declared.Protection.the-variants.{Unprotected, Protected}
-use Rattle.ondristela.specs.Boundary.{layoutNumbers, layoutOf, protectionNumbers, protectionOf, viewNumbers, viewOf}
-use Rattle.ondristela.specs.Boundary.{locatedLeft, openedLeft, keysLeft, mappedLeft, blockLeft, viewedLeft, viewLeft}
+use Rattle.ondristela.specs.Boundary.{layoutNumbers, layoutFrom, protectionNumbers, protectionOf, viewNumbers, viewFrom}
+use Rattle.ondristela.specs.Boundary.{numberedLeft, openedLeft, keysLeft, blockLeft, viewedLeft, viewLeft}
 use Rattle.guarantees.specs.Boundary.{TellsNumbers, ReturnsZero, OrdersNumbers, storedProtection, StoresAnswers}
 use Rattle.guarantees.proofs.BoundaryNumbers.{view-of-numbers, set-last}
 use Rattle.guarantees.proofs.BoundaryZero.{located-zero, opened-zero, host-sector-zero, user-sector-zero}
@@ -24,15 +23,13 @@ use Rattle.guarantees.proofs.BoundaryZero.{plain-view-zero, protected-v
 use Rattle.guarantees.proofs.Reflects.{is-false, reflects-eqb}
 
 pub tells-numbers : TellsNumbers
-unfolding numberOf locatedNumber mappedRefusal viewedRefusal answerNumber
+unfolding openedRefusal numberedRefusal viewedRefusal answerRefusal
 tells-numbers =
     record {
       openedAccepted = λ layout. refl;
       openedRefused = λ number. refl;
-      locatedAccepted = λ offset. refl;
-      locatedRefused = λ number. refl;
-      mappedAccepted = λ sector. refl;
-      mappedRefused = λ number. refl;
+      numberedAccepted = λ number. refl;
+      numberedRefused = λ number. refl;
       madeAccepted = λ view. refl;
       madeRefused = λ number. refl;
       accessAccepted = refl;
@@ -56,7 +53,7 @@ returns-zero =
 
 pub orders-numbers : (host kind magic version program start size candidate protected first end lock : ℕ)
     → OrdersNumbers host kind magic version program start size candidate protected first end lock
-unfolding layoutOf viewOf protectionOf
+unfolding layoutFrom viewFrom protectionOf
 orders-numbers host kind magic version program start size candidate protected first end lock = record { layout = refl; view = refl }
 
 protection-stored : (protection : Protection) → protectionNumbers protection ≡ storedProtection protection
@@ -65,18 +62,16 @@ protection-stored Unprotected = refl
 protection-stored (Protected first end) = refl
 
 pub stores-answers : (before : List ℕ) → StoresAnswers before
-unfolding locatedLeft openedLeft keysLeft keysOffset keysSize mappedLeft blockLeft viewedLeft viewLeft layoutNumbers viewNumbers
+unfolding numberedLeft openedLeft keysLeft keysOffset keysSize blockLeft viewedLeft viewLeft layoutNumbers viewNumbers
 stores-answers before =
     record {
-      offset = λ offset. refl;
-      noOffset = λ number. refl;
       layout = λ layout. refl;
       noLayout = λ number. refl;
       keys = λ layout. refl;
       keysInside = λ candidates codes hostSize layout e. omega (arith, opened-inside candidates hostSize layout codes e .0);
       noKeys = λ number. refl;
-      sector = λ sector. refl;
-      noSector = λ number. refl;
+      number = λ number. refl;
+      noNumber = λ number. refl;
       block = λ sector block. refl;
       noBlock = λ number block. refl;
       view = λ view. rw (protection-stored (view .protection));

@@ -14,21 +14,21 @@ use Rattle.view.specs.declared.Protection.{Protection}
 use Rattle.view.specs.declared.Protection.the-variants.{Unprotected, Protected}
 use Rattle.view.specs.declared.View.{View}
 use Rattle.view.specs.Access.{after}
-use Rattle.ondristela.specs.Boundary.{layoutNumbers, layoutOf, protectionNumbers, protectionOf, viewNumbers, viewOf, viewLeft}
+use Rattle.ondristela.specs.Boundary.{layoutNumbers, layoutFrom, protectionNumbers, protectionOf, viewNumbers, viewFrom, viewLeft}
 
 -- a view of its three parts
 abbrev viewWith : Layout → Protection → Bool → View
 viewWith layout protection locked = record { layout = layout; protection = protection; locked = locked }
 
 view-with-of-numbers : (layout : Layout) (protection : Protection) (locked : Bool)
-    → viewOf (viewNumbers (viewWith layout protection locked)) ≡ viewWith layout protection locked
-unfolding viewOf viewNumbers layoutOf layoutNumbers protectionOf protectionNumbers
+    → viewFrom (viewNumbers (viewWith layout protection locked)) ≡ viewWith layout protection locked
+unfolding viewFrom viewNumbers layoutFrom layoutNumbers protectionOf protectionNumbers
 view-with-of-numbers layout Unprotected true = refl
 view-with-of-numbers layout Unprotected false = refl
 view-with-of-numbers layout (Protected first end) true = refl
 view-with-of-numbers layout (Protected first end) false = refl
 
-pub view-of-numbers : (view : View) → viewOf (viewNumbers view) ≡ view
+pub view-of-numbers : (view : View) → viewFrom (viewNumbers view) ≡ view
 view-of-numbers view = view-with-of-numbers (view .layout) (view .protection) (view .locked)
 
 -- a store leaves what stands before it
@@ -37,18 +37,18 @@ getD-set-before l i j v d e = getD-set-other l i j v d (λ same. omega (arith, l
 
 module _ (numbers : List ℕ) (h : 11 < length numbers) where
   -- with 1 for the last of a view's numbers they tell the same view, its lock closed
-  view-of-set : viewOf (set numbers 11 1) ≡ viewWith (viewOf numbers .layout) (viewOf numbers .protection) true
-  unfolding viewOf layoutOf
+  view-of-set : viewFrom (set numbers 11 1) ≡ viewWith (viewFrom numbers .layout) (viewFrom numbers .protection) true
+  unfolding viewFrom layoutFrom
   view-of-set = simp (getD-set-before numbers 11, getD-set-same numbers 11 1 0 h)
 
   -- .. and where nothing is stored, its lock as it was
-  view-of-cond-set : (closes : Bool) → viewOf (cond closes (set numbers 11 1) numbers)
-      ≡ viewWith (viewOf numbers .layout) (viewOf numbers .protection) (cond closes true (viewOf numbers .locked))
+  view-of-cond-set : (closes : Bool) → viewFrom (cond closes (set numbers 11 1) numbers)
+      ≡ viewWith (viewFrom numbers .layout) (viewFrom numbers .protection) (cond closes true (viewFrom numbers .locked))
   view-of-cond-set true = view-of-set
   view-of-cond-set false = refl
 
 -- the numbers that a write leaves tell the view that it hands back
-pub view-of-left : (number : ℕ) (numbers : List ℕ) → length numbers ≡ 12 → viewOf (viewLeft number numbers) ≡ after (viewOf numbers) number
+pub view-of-left : (number : ℕ) (numbers : List ℕ) → length numbers ≡ 12 → viewFrom (viewLeft number numbers) ≡ after (viewFrom numbers) number
 unfolding viewLeft after
 view-of-left number numbers h = view-of-cond-set numbers (omega arith) (eqb number 18)
 

@@ -14,7 +14,7 @@ use Rattle.view.specs.declared.Protection.the-variants.{Unprotected, Protected}
 use Rattle.view.specs.declared.View.{View}
 use Rattle.view.specs.declared.Viewed.the-variants.{Made}
 use Rattle.view.proofs.AccessLaws.{answer-number-answered}
-use Rattle.ondristela.specs.Boundary.{viewOf, viewLeft, viewedLeft, ReadCall, WriteCall}
+use Rattle.ondristela.specs.Boundary.{viewFrom, viewLeft, viewedLeft, ReadCall, WriteCall}
 use Rattle.guarantees.specs.Boundary.{storedLayout, storedProtection}
 use Rattle.guarantees.specs.BoundaryRuns.{Numbers, Twelve, told, numbersOf, putNumbers, storedFor, NumberStep, NumberRun, CarriesRuns, BeginsRuns}
 use Rattle.guarantees.specs.BoundaryRuns as numbered
@@ -28,19 +28,19 @@ use Rattle.guarantees.proofs.BoundaryNumbers.{view-of-left}
 use Rattle.guarantees.proofs.Views.{makes-views}
 
 -- the view of a side, from its numbers
-view-told : (side : Side) (numbers : Numbers) → states.viewOf side (told numbers) ≡ viewOf (numbersOf side numbers)
-unfolding states.viewOf told numbersOf
+view-told : (side : Side) (numbers : Numbers) → states.sideView side (told numbers) ≡ viewFrom (numbersOf side numbers)
+unfolding states.sideView told numbersOf
 view-told outer numbers = refl
 view-told hidden numbers = refl
 
 -- the state told after a write, and after a read
 put-told : (side : Side) (left image : List ℕ) (numbers : Numbers)
-    → put side (viewOf left) image (told numbers) ≡ told (putNumbers side left image numbers)
+    → put side (viewFrom left) image (told numbers) ≡ told (putNumbers side left image numbers)
 unfolding put told putNumbers
 put-told outer left image numbers = refl
 put-told hidden left image numbers = refl
 
-put-same : (side : Side) (numbers : Numbers) → put side (viewOf (numbersOf side numbers)) (numbers .image) (told numbers) ≡ told numbers
+put-same : (side : Side) (numbers : Numbers) → put side (viewFrom (numbersOf side numbers)) (numbers .image) (told numbers) ≡ told numbers
 unfolding put told numbersOf
 put-same outer numbers = refl
 put-same hidden numbers = refl
@@ -70,7 +70,7 @@ step-as s e f = rw (← e, ← f) s
 
 module _ (numbers : Numbers) (t : Twelve numbers) (side : Side) (first count : ℕ) (buffer : List ℕ) where
   abbrev view : View
-  view = viewOf (numbersOf side numbers)
+  view = viewFrom (numbersOf side numbers)
 
   read-is : (filled : List ℕ) (number : ℕ) → ReadCall (numbersOf side numbers) (numbers .image) first count buffer number filled
       → Step (told numbers) (turn side (record { kind = reads; first = first; count = count; buffer = buffer }))
@@ -91,8 +91,8 @@ module _ (numbers : Numbers) (t : Twelve numbers) (side : Side) (first count : �
       let n = writeNumber view (length (numbers .image)) first count (length buffer) in
       let outcome : Outcome = record { view = after view n; answer = answered n } in
       let post : WritePost view (numbers .image) first count buffer outcome written = record { back = refl; answers = refl; writes = call .writes } in
-      let locked : after view n ≡ viewOf left =
-      sym (ap viewOf (call .locks ∙ ap (λ (k : ℕ). viewLeft k (numbersOf side numbers)) (call .returns))
+      let locked : after view n ≡ viewFrom left =
+      sym (ap viewFrom (call .locks ∙ ap (λ (k : ℕ). viewLeft k (numbersOf side numbers)) (call .returns))
       ∙ view-of-left n (numbersOf side numbers) (twelve-of side numbers t)) in
       step-as (aWrite side first count buffer written outcome (rw (view-told side numbers) post))
       (λ i. record { answer = (answer-number-answered n ∙ sym (call .returns)) i; buffer = buffer })
@@ -141,20 +141,20 @@ stored-twelve view before = ap length (stores-answers before .view view) ∙ go 
     go Unprotected = refl
     go (Protected first end) = refl
 
-pub begins-runs : (outerLayout innerLayout : Layout) → BeginsRuns outerLayout innerLayout
+pub begins-runs : (outerLayout hiddenLayout : Layout) → BeginsRuns outerLayout hiddenLayout
 unfolding told storedFor states.start
-begins-runs outerLayout innerLayout =
-    let outer = makes-views outerLayout innerLayout in
-    let inner = makes-views innerLayout innerLayout in
+begins-runs outerLayout hiddenLayout =
+    let outer = makes-views outerLayout hiddenLayout in
+    let alone = makes-views hiddenLayout hiddenLayout in
     record {
       start = λ s t n before other image.
-          rw (outer .guardedMade s t n, inner .plainMade t) λ i.
+          rw (outer .guardedMade s t n, alone .plainMade t) λ i.
           record {
-            outerView = stores-answers before .viewBack (protecting outerLayout innerLayout false) i;
-            hiddenView = stores-answers other .viewBack (plain innerLayout false) i;
+            outerView = stores-answers before .viewBack (protecting outerLayout hiddenLayout false) i;
+            hiddenView = stores-answers other .viewBack (plain hiddenLayout false) i;
             image = image;
           };
       twelve = λ s t n before other image.
-          rw (outer .guardedMade s t n, inner .plainMade t)
-          (record { outerTwelve = stored-twelve (protecting outerLayout innerLayout false) before; hiddenTwelve = stored-twelve (plain innerLayout false) other });
+          rw (outer .guardedMade s t n, alone .plainMade t)
+          (record { outerTwelve = stored-twelve (protecting outerLayout hiddenLayout false) before; hiddenTwelve = stored-twelve (plain hiddenLayout false) other });
     }

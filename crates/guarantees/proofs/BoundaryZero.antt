@@ -8,20 +8,20 @@ use mathlib.Core.Bool.{Bool, true, false, _&&_, cond}
 use mathlib.Core.List.{List}
 use lib.Dec.{leb, ltb, eqb}
 use borrow.Author.Tests.{eqb-true}
-use Rattle.layout.specs.Answer.{numberOf}
+use Rattle.answers.specs.Answers.{numberedRefusal}
+use Rattle.layout.specs.Opened.{openedRefusal}
 use Rattle.layout.specs.Rules.{hostSizeRule}
 use Rattle.layout.specs.Soundness.{sound}
 use Rattle.layout.specs.declared.Layout.{Layout}
 use Rattle.layout.specs.declared.Opened.{Opened}
 use Rattle.layout.specs.declared.Opened.the-variants.{Accepted, Refused}
-use Rattle.opening.specs.Locations.{codeRule, located, locatedNumber}
+use Rattle.opening.specs.Locations.{codeRule, located}
 use Rattle.opening.specs.Opening.{judgements, searchFrom, opened}
-use Rattle.opening.specs.declared.Located.the-variants.{At}
-use Rattle.sector_map.specs.SectorMap.{sectors, firstSector, hostSector, userSector, mappedRefusal}
-use Rattle.sector_map.specs.declared.Mapped.the-variants.{Number}
+use Rattle.sector_map.specs.SectorMap.{sectors, firstSector, hostSector, userSector}
+use Rattle.answers.specs.declared.Numbered.the-variants.{Number}
 use Rattle.view.specs.Access.{answered}
 use Rattle.view.specs.Views.{plainView, nests, protectedView, viewedRefusal}
-use Rattle.view.specs.declared.Answer.the-variants as access
+use Rattle.answers.specs.declared.Answer.the-variants as access
 use Rattle.view.specs.declared.Viewed.the-variants.{Made}
 use Rattle.guarantees.specs.Boundary.{ZeroAccepts}
 use Rattle.guarantees.specs.Header.{number}
@@ -50,16 +50,16 @@ module _ {A R : Type 0} {number : R → ℕ} {accepted : A → R} where
   zero-tests first second value refused later zero p q =
       zero-test first (cond second (accepted value) later) refused zero p (zero-test second (accepted value) later zero q (zero-accepted value zero))
 
-pub located-zero : (code hostSize : ℕ) → ZeroAccepts locatedNumber At (located code hostSize)
-unfolding located locatedNumber
+pub located-zero : (code hostSize : ℕ) → ZeroAccepts numberedRefusal Number (located code hostSize)
+unfolding located numberedRefusal
 located-zero code hostSize = zero-tests (codeRule code) (hostSizeRule hostSize) _ _ _ (λ offset. refl) (omega arith) (omega arith)
 
-pub host-sector-zero : (layout : Layout) (user : ℕ) → ZeroAccepts mappedRefusal Number (hostSector layout user)
-unfolding hostSector mappedRefusal
+pub host-sector-zero : (layout : Layout) (user : ℕ) → ZeroAccepts numberedRefusal Number (hostSector layout user)
+unfolding hostSector numberedRefusal
 host-sector-zero layout user = zero-tests (sound layout) (ltb user (sectors layout)) _ _ _ (λ sector. refl) (omega arith) (omega arith)
 
-pub user-sector-zero : (layout : Layout) (host : ℕ) → ZeroAccepts mappedRefusal Number (userSector layout host)
-unfolding userSector mappedRefusal
+pub user-sector-zero : (layout : Layout) (host : ℕ) → ZeroAccepts numberedRefusal Number (userSector layout host)
+unfolding userSector numberedRefusal
 user-sector-zero layout host =
     zero-tests (sound layout) (leb (firstSector layout) host && ltb host (firstSector layout + sectors layout)) _ _ _ (λ sector. refl) (omega arith)
     (omega arith)
@@ -68,29 +68,29 @@ pub plain-view-zero : (layout : Layout) → ZeroAccepts viewedRefusal Made (plai
 unfolding plainView viewedRefusal
 plain-view-zero layout = zero-test (sound layout) _ _ (λ view. refl) (omega arith) (zero-accepted _ (λ view. refl))
 
-pub protected-view-zero : (outer inner : Layout) → ZeroAccepts viewedRefusal Made (protectedView outer inner)
+pub protected-view-zero : (outer hiddenLayout : Layout) → ZeroAccepts viewedRefusal Made (protectedView outer hiddenLayout)
 unfolding protectedView viewedRefusal
-protected-view-zero outer inner =
-    zero-tests (sound outer && sound inner) (nests outer inner) _ _ _ (λ view. refl) (omega arith) (omega arith)
+protected-view-zero outer hiddenLayout =
+    zero-tests (sound outer && sound hiddenLayout) (nests outer hiddenLayout) _ _ _ (λ view. refl) (omega arith) (omega arith)
 
 module _ (candidates codes : List ℕ) (hostSize : ℕ) where
   -- what the search finds is never refused by 0: a line's number is at least 5
-  found-zero : {answer : Opened} → Found candidates codes hostSize answer → ZeroAccepts numberOf Accepted answer
-  unfolding numberOf
+  found-zero : {answer : Opened} → Found candidates codes hostSize answer → ZeroAccepts openedRefusal Accepted answer
+  unfolding openedRefusal
   found-zero (anAccepted i layout r told) = zero-accepted layout (λ other. refl)
   found-zero (aHeader f i line h) = zero-refused (Refused (number line)) (λ other. refl) (omega (arith, number-bounds line))
   found-zero (noHeader f g) = zero-refused (Refused 4) (λ other. refl) (omega arith)
 
   opened-zero-by : {a b c : Bool} → Reflects (Lengths candidates codes) a → Reflects (Codes codes) b → Reflects (HostSize hostSize) c
-      → ZeroAccepts numberOf Accepted
+      → ZeroAccepts openedRefusal Accepted
       (cond a (cond b (cond c (searchFrom 4 (judgements candidates hostSize 0 codes)) (Refused 3)) (Refused 2)) (Refused 1))
-  unfolding numberOf
+  unfolding openedRefusal
   opened-zero-by (holds l) (holds k) (holds s) = found-zero (search-says candidates codes hostSize (record { lengths = l; codesKnown = k; size = s }))
   opened-zero-by (holds l) (holds k) (fails f) = zero-refused (Refused 3) (λ other. refl) (omega arith)
   opened-zero-by (holds l) (fails f) t = zero-refused (Refused 2) (λ other. refl) (omega arith)
   opened-zero-by (fails f) r t = zero-refused (Refused 1) (λ other. refl) (omega arith)
 
-  pub opened-zero : ZeroAccepts numberOf Accepted (opened candidates codes hostSize)
+  pub opened-zero : ZeroAccepts openedRefusal Accepted (opened candidates codes hostSize)
   unfolding opened
   opened-zero = opened-zero-by (lengths-reflects candidates codes) (codes-reflects codes) (host-size-reflects hostSize)
 

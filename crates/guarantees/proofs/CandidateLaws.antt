@@ -6,7 +6,7 @@ use mathlib.Core.Path.{_≡_, refl}
 use mathlib.Core.Logic.{inl, inr}
 use mathlib.Core.List.{List}
 use lib.ListN.{length, getD, length-take, length-drop}
-use Rattle.header.specs.Header.{fieldsOf, layoutOf, judge}
+use Rattle.header.specs.Header.{fieldsOf, acceptedLayout, judge}
 use Rattle.opening.specs.Locations.{locations, locationOf}
 use Rattle.opening.specs.Opening.{candidateAt}
 use Rattle.guarantees.specs.Header.{KnownKind, IsVera, IsTrue, Tells}
@@ -46,7 +46,7 @@ true-told (spellsTrue t f) u = refl
 true-told (spellsNeither f) u = absurd (f (inr u))
 
 pub layout-tells : (kind hostSize index : ℕ) (h : List ℕ) → Tells kind hostSize index h (Told kind hostSize index h)
-unfolding layoutOf fieldsOf
+unfolding acceptedLayout fieldsOf
 layout-tells kind hostSize index h =
     record {
       hostSizeTold = refl;

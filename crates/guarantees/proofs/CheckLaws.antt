@@ -13,7 +13,7 @@ use Rattle.sector_map.specs.SectorMap.{sectors}
 use Rattle.view.specs.Access.{checked, touches, readNumber, writeNumber}
 use Rattle.view.specs.Views.{areaEnd}
 use Rattle.guarantees.specs.Interleaving.{turn}
-use Rattle.guarantees.specs.ReferenceModel.{Side, outer, hidden, Model, lockOf, layoutOf, hostsOf, touched, judged}
+use Rattle.guarantees.specs.ReferenceModel.{Side, outer, hidden, Model, lockOf, sideLayout, hostsOf, touched, judged}
 use Rattle.guarantees.specs.Table.{Kind, reads, writes, check, later, tabled}
 use Rattle.guarantees.proofs.NestLaws.{Nest}
 use Rattle.guarantees.proofs.Reflects.{Reflects, holds, fails, reflects-eqb, reflects-leb}
@@ -59,42 +59,42 @@ in-order-fits layout imageSize first count bufferSize rest e =
     (reflects-leb (first + count) (sectors layout)) e in
     record { whole = p .0; sized = p .1; inside = p .2 }
 
-module _ (outerLayout innerLayout : Layout) (side : Side) (first count : ℕ) (buffer : List ℕ) (model : Model) where
+module _ (outerLayout hiddenLayout : Layout) (side : Side) (first count : ℕ) (buffer : List ℕ) (model : Model) where
   -- the number that the model gives a call of a kind
   abbrev pub numbered : Kind → ℕ
-  numbered kind = judged outerLayout innerLayout (turn side (record { kind = kind; first = first; count = count; buffer = buffer })) model
+  numbered kind = judged outerLayout hiddenLayout (turn side (record { kind = kind; first = first; count = count; buffer = buffer })) model
 
   abbrev size : ℕ
-  size = layoutOf outerLayout innerLayout side .«host_size»
+  size = sideLayout outerLayout hiddenLayout side .«host_size»
 
   abbrev total : ℕ
-  total = sectors (layoutOf outerLayout innerLayout side)
+  total = sectors (sideLayout outerLayout hiddenLayout side)
 
   pub judged-fits : (kind : Kind) → numbered kind ≡ 0
-      → Fits (layoutOf outerLayout innerLayout side) (length (model .image)) first count (length buffer)
+      → Fits (sideLayout outerLayout hiddenLayout side) (length (model .image)) first count (length buffer)
   unfolding judged tabled sectors
-  judged-fits kind = in-order-fits (layoutOf outerLayout innerLayout side) (length (model .image)) first count (length buffer) _
+  judged-fits kind = in-order-fits (sideLayout outerLayout hiddenLayout side) (length (model .image)) first count (length buffer) _
 
   pub judged-reads : eqb (numbered reads) 18 ≡ false
   unfolding judged tabled later sectors
   judged-reads = in-order-not-18 (eqb (length (model .image)) size) (leb count 128) (eqb (length buffer) (count * 512)) (leb (first + count) total)
 
-module _ (outerLayout innerLayout : Layout) (nest : Nest outerLayout innerLayout) where
+module _ (outerLayout hiddenLayout : Layout) (nest : Nest outerLayout hiddenLayout) where
   pub read-number-judged : (side : Side) (first count : ℕ) (buffer : List ℕ) (model : Model)
-      → readNumber (viewFor outerLayout innerLayout side (lockOf side model)) (length (model .image)) first count (length buffer)
-      ≡ numbered outerLayout innerLayout side first count buffer model reads
-  unfolding readNumber checked viewFor judged tabled later sectors layoutOf
-  read-number-judged outer first count buffer model = rw (sound-view-for outerLayout innerLayout nest outer (lockOf outer model))
-  read-number-judged hidden first count buffer model = rw (sound-view-for outerLayout innerLayout nest hidden (lockOf hidden model))
+      → readNumber (viewFor outerLayout hiddenLayout side (lockOf side model)) (length (model .image)) first count (length buffer)
+      ≡ numbered outerLayout hiddenLayout side first count buffer model reads
+  unfolding readNumber checked viewFor judged tabled later sectors sideLayout
+  read-number-judged outer first count buffer model = rw (sound-view-for outerLayout hiddenLayout nest outer (lockOf outer model))
+  read-number-judged hidden first count buffer model = rw (sound-view-for outerLayout hiddenLayout nest hidden (lockOf hidden model))
 
   pub write-number-judged : (side : Side) (first count : ℕ) (buffer : List ℕ) (model : Model)
-      → writeNumber (viewFor outerLayout innerLayout side (lockOf side model)) (length (model .image)) first count (length buffer)
-      ≡ numbered outerLayout innerLayout side first count buffer model writes
-  unfolding areaEnd writeNumber checked viewFor judged tabled later sectors layoutOf touched touches hostsOf
+      → writeNumber (viewFor outerLayout hiddenLayout side (lockOf side model)) (length (model .image)) first count (length buffer)
+      ≡ numbered outerLayout hiddenLayout side first count buffer model writes
+  unfolding areaEnd writeNumber checked viewFor judged tabled later sectors sideLayout touched touches hostsOf
   write-number-judged outer first count buffer model =
-      rw (sound-view-for outerLayout innerLayout nest outer (lockOf outer model))
+      rw (sound-view-for outerLayout hiddenLayout nest outer (lockOf outer model))
       (in-order-rest (eqb (length (model .image)) (outerLayout .«host_size»)) (leb count 128) (eqb (length buffer) (count * 512))
       (reflects-leb (first + count) (sectors outerLayout))
       (λ inside. ap (later writes (lockOf outer model))
-      (touches-any-protected innerLayout (nest .innerSound) outerLayout (nest .outerSound) first count inside)))
-  write-number-judged hidden first count buffer model = rw (sound-view-for outerLayout innerLayout nest hidden (lockOf hidden model))
+      (touches-any-protected hiddenLayout (nest .hiddenSound) outerLayout (nest .outerSound) first count inside)))
+  write-number-judged hidden first count buffer model = rw (sound-view-for outerLayout hiddenLayout nest hidden (lockOf hidden model))

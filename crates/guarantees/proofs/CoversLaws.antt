@@ -10,7 +10,7 @@ use borrow.Author.Tests.{lt-ltb}
 use Rattle.layout.specs.Soundness.{sound}
 use Rattle.layout.specs.declared.Layout.{Layout}
 use Rattle.sector_map.specs.SectorMap.{sectors, firstSector, hostSector}
-use Rattle.sector_map.specs.declared.Mapped.the-variants.{Number}
+use Rattle.answers.specs.declared.Numbered.the-variants.{Number}
 use Rattle.guarantees.specs.Table.{withHost, covers}
 
 -- so many numbers, from one on

@@ -37,28 +37,28 @@ header-tells h code hostSize layout e =
 has-area : {kind hostSize : ℕ} {h : List ℕ} {layout : Layout} → Tells kind hostSize 0 h layout → HasArea hostSize h layout
 has-area told = record { host = told .hostSizeTold; start = told .startTold; size = told .sizeTold }
 
-pub from-headers : (outerHeader innerHeader : List ℕ) (outerCode innerCode hostSize : ℕ)
-    → FromHeaders outerHeader innerHeader outerCode innerCode hostSize
-from-headers outerHeader innerHeader outerCode innerCode hostSize =
+pub from-headers : (outerHeader hiddenHeader : List ℕ) (outerCode hiddenCode hostSize : ℕ)
+    → FromHeaders outerHeader hiddenHeader outerCode hiddenCode hostSize
+from-headers outerHeader hiddenHeader outerCode hiddenCode hostSize =
     record {
-      holds = λ outerLayout innerLayout e f nest.
+      holds = λ outerLayout hiddenLayout e f nest.
           let outer = header-tells outerHeader outerCode hostSize outerLayout e in
-          let inner = header-tells innerHeader innerCode hostSize innerLayout f in
+          let hidden = header-tells hiddenHeader hiddenCode hostSize hiddenLayout f in
           let outerSound = opened-sound outerHeader (outerCode ∷ []) hostSize outerLayout e in
-          let innerSound = opened-sound innerHeader (innerCode ∷ []) hostSize innerLayout f in
-          let nested : Nested outerLayout innerLayout =
+          let hiddenSound = opened-sound hiddenHeader (hiddenCode ∷ []) hostSize hiddenLayout f in
+          let nested : Nested outerLayout hiddenLayout =
           record {
-            standardOuter = outer .kindTold ∙ nest .standardCode;
-            hiddenInner = inner .kindTold ∙ nest .hiddenCode;
-            sameHost = outer .hostSizeTold ∙ sym (inner .hostSizeTold);
-            starts = omega (arith, outer .startTold, inner .startTold, nest .starts);
-            ends = omega (arith, outer .startTold, inner .startTold, outer .sizeTold, inner .sizeTold, nest .ends);
+            firstStandard = outer .kindTold ∙ nest .firstStandard;
+            secondHidden = hidden .kindTold ∙ nest .secondHidden;
+            sameHost = outer .hostSizeTold ∙ sym (hidden .hostSizeTold);
+            starts = omega (arith, outer .startTold, hidden .startTold, nest .starts);
+            ends = omega (arith, outer .startTold, hidden .startTold, outer .sizeTold, hidden .sizeTold, nest .ends);
           } in
           record {
             outerArea = has-area outer;
-            innerArea = has-area inner;
-            outerView = makes-views outerLayout innerLayout .guardedMade outerSound innerSound nested;
-            innerView = makes-views innerLayout innerLayout .plainMade innerSound;
-            demand3 = demand-3 outerLayout innerLayout .holds outerSound innerSound nested;
+            hiddenArea = has-area hidden;
+            outerView = makes-views outerLayout hiddenLayout .guardedMade outerSound hiddenSound nested;
+            hiddenView = makes-views hiddenLayout hiddenLayout .plainMade hiddenSound;
+            demand3 = demand-3 outerLayout hiddenLayout .holds outerSound hiddenSound nested;
           };
     }

@@ -22,11 +22,11 @@ gather-same f g first zero same = refl
 gather-same f g first (suc count) same =
     ap₂ _++_ (same first (omega arith) (omega arith)) (gather-same f g (suc first) count (λ host h k. same host (omega arith) (omega arith)))
 
-module _ (outerLayout innerLayout : Layout) (image other : List ℕ) (size : length image ≡ length other)
-    (same : (host : ℕ) → isProtected innerLayout host ≡ false → sectorAt host image ≡ sectorAt host other) where
+module _ (outerLayout hiddenLayout : Layout) (image other : List ℕ) (size : length image ≡ length other)
+    (same : (host : ℕ) → isProtected hiddenLayout host ≡ false → sectorAt host image ≡ sectorAt host other) where
   pub pieces-same : (first count : ℕ) → (first + count) * 512 ≤ length image
-      → unprotectedPieces outerLayout innerLayout (consecutive first count) (gather (λ host. sectorAt host image) (consecutive first count))
-      ≡ unprotectedPieces outerLayout innerLayout (consecutive first count) (gather (λ host. sectorAt host other) (consecutive first count))
+      → unprotectedPieces outerLayout hiddenLayout (consecutive first count) (gather (λ host. sectorAt host image) (consecutive first count))
+      ≡ unprotectedPieces outerLayout hiddenLayout (consecutive first count) (gather (λ host. sectorAt host other) (consecutive first count))
   unfolding consecutive gather unprotectedPieces
   pieces-same first zero inside = refl
   pieces-same first (suc count) inside =
@@ -41,5 +41,5 @@ module _ (outerLayout innerLayout : Layout) (image other : List ℕ) (size : len
         drop-at (sectorAt first other) otherRest 512 otherLong,
       )
       (ap₂ _∷_
-      (test-cases (λ b. cond b [] (sectorAt first image) ≡ cond b [] (sectorAt first other)) (isProtected innerLayout first) (λ e. refl) (same first))
+      (test-cases (λ b. cond b [] (sectorAt first image) ≡ cond b [] (sectorAt first other)) (isProtected hiddenLayout first) (λ e. refl) (same first))
       (pieces-same (suc first) count (omega arith)))

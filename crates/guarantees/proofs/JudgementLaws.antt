@@ -11,7 +11,7 @@ use borrow.Author.Tests.{ne-eqb}
 use Rattle.layout.specs.declared.Layout.{Layout}
 use Rattle.layout.specs.declared.Opened.{Opened}
 use Rattle.layout.specs.declared.Opened.the-variants.{Accepted, Refused}
-use Rattle.header.specs.Header.{magicOf, fieldsOf, firstBroken, layoutOf, answer, judge}
+use Rattle.header.specs.Header.{magicOf, fieldsOf, firstBroken, acceptedLayout, answer, judge}
 use Rattle.guarantees.specs.Header.{KnownKind, IsHeader, Line, version, reserved, flags, sectorSize, hiddenSize, dataArea, number, Keeps, FirstBroken}
 use Rattle.guarantees.proofs.Reflects.{Reflects, holds, fails, below-suc}
 use Rattle.guarantees.proofs.HeaderLaws.{magic-of-says, is-header-reflects}
@@ -79,7 +79,7 @@ module _ (kind hostSize : ℕ) (h : List ℕ) where
 module _ (kind hostSize index : ℕ) (h : List ℕ) where
   -- what the candidate tells where it is accepted
   abbrev pub Told : Layout
-  Told = layoutOf kind hostSize index (magicOf h) (fieldsOf h)
+  Told = acceptedLayout kind hostSize index (magicOf h) (fieldsOf h)
 
   -- what the judgement of a candidate says
   pub data Judgement : Opened → Type 0 where

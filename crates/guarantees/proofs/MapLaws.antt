@@ -7,14 +7,14 @@ use mathlib.Core.Bool.{Bool, _&&_, cond}
 use lib.Dec.{leb, ltb}
 use Rattle.layout.specs.declared.Layout.{Layout}
 use Rattle.sector_map.specs.SectorMap.{sectors, firstSector, hostSector, userSector}
-use Rattle.sector_map.specs.declared.Mapped.{Mapped}
-use Rattle.sector_map.specs.declared.Mapped.the-variants.{Number, Refused}
+use Rattle.answers.specs.declared.Numbered.{Numbered}
+use Rattle.answers.specs.declared.Numbered.the-variants.{Number, Refused}
 use Rattle.guarantees.specs.SectorMap.{Sound, InArea, Outside, OutsideHeaders}
 use Rattle.guarantees.proofs.Reflects.{Reflects, holds, fails, is-true, reflects-map, reflects-and, reflects-leb}
 use Rattle.guarantees.proofs.SoundLaws.{sound-reflects, sound-start}
 
 -- an answer is a number where P holds, and else 16
-pub data Answers (P : Type 0) (n : ℕ) : Mapped → Type 0 where
+pub data Answers (P : Type 0) (n : ℕ) : Numbered → Type 0 where
   answersNumber : P → Answers P n (Number n)
   answers16 : (P → ⊥) → Answers P n (Refused 16)
 
@@ -22,15 +22,15 @@ answers-cond : {P : Type 0} {b : Bool} (n : ℕ) → Reflects P b → Answers P 
 answers-cond n (holds p) = answersNumber p
 answers-cond n (fails f) = answers16 f
 
-pub is-number : {P : Type 0} {n : ℕ} {m : Mapped} → Answers P n m → P → m ≡ Number n
+pub is-number : {P : Type 0} {n : ℕ} {m : Numbered} → Answers P n m → P → m ≡ Number n
 is-number (answersNumber p) q = refl
 is-number (answers16 f) q = absurd (f q)
 
-pub is-refused : {P : Type 0} {n : ℕ} {m : Mapped} → Answers P n m → (P → ⊥) → m ≡ Refused 16
+pub is-refused : {P : Type 0} {n : ℕ} {m : Numbered} → Answers P n m → (P → ⊥) → m ≡ Refused 16
 is-refused (answersNumber p) g = absurd (g p)
 is-refused (answers16 f) g = refl
 
-pub number-says : {P : Type 0} {n k : ℕ} {m : Mapped} → Answers P n m → m ≡ Number k → P × (n ≡ k)
+pub number-says : {P : Type 0} {n k : ℕ} {m : Numbered} → Answers P n m → m ≡ Number k → P × (n ≡ k)
 number-says (answersNumber p) e = (p, (cc))
 number-says (answers16 f) e = let z : _≡_ {A = ℕ} 0 1 = cc in absurd (omega arith)
 

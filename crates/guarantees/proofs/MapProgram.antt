@@ -12,7 +12,7 @@ use Rattle.layout.specs.declared.Layout.{Layout}
 use Rattle.layout.specs.declared.Opened.the-variants.{Refused}
 use Rattle.opening.specs.Opening.{opened}
 use Rattle.sector_map.specs.SectorMap.{sectors, firstSector, sectorCount, hostSector}
-use Rattle.sector_map.specs.declared.Mapped.the-variants.{Number}
+use Rattle.answers.specs.declared.Numbered.the-variants.{Number}
 use Rattle.map_input.specs.MapInput.{openedInput}
 use Rattle.map_output.specs.Ascii.{ascii}
 use Rattle.map_output.specs.Decimal.{digits, decimal}

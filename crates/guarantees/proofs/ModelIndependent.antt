@@ -19,65 +19,65 @@ only side [] = []
 only side (call ∷ calls) = turn side call ∷ only side calls
 
 -- models that are the same for both sides are equal
-same-both : (inner : Layout) (model other : Model) → Same inner outer model other → Same inner hidden model other → model ≡ other
+same-both : (hiddenLayout : Layout) (model other : Model) → Same hiddenLayout outer model other → Same hiddenLayout hidden model other → model ≡ other
 unfolding lockOf mayWrite
-same-both inner model other o h =
+same-both hiddenLayout model other o h =
     let images =
     sectors-ext (model .image) (other .image) (o .sameLength)
     (λ host.
-    test-cases (λ b. sectorAt host (model .image) ≡ sectorAt host (other .image)) (isProtected inner host) (h .sameSector host)
+    test-cases (λ b. sectorAt host (model .image) ≡ sectorAt host (other .image)) (isProtected hiddenLayout host) (h .sameSector host)
     (λ e. o .sameSector host (ap not e))) in
     λ i. record { image = images i; outerLocked = o .sameLock i; hiddenLocked = h .sameLock i }
 
-module _ (outerLayout innerLayout : Layout) (nest : Nest outerLayout innerLayout) where
-  hidden-alone : {xs ys : List Call} {turns : List Turn} → Interleaves xs ys turns → (model other : Model) → Same innerLayout hidden model other
-      → Same innerLayout hidden (final outerLayout innerLayout turns model) (final outerLayout innerLayout (only hidden ys) other)
-      × (repliesOf outerLayout innerLayout hidden turns (replies outerLayout innerLayout turns model)
-      ≡ replies outerLayout innerLayout (only hidden ys) other)
+module _ (outerLayout hiddenLayout : Layout) (nest : Nest outerLayout hiddenLayout) where
+  hidden-alone : {xs ys : List Call} {turns : List Turn} → Interleaves xs ys turns → (model other : Model) → Same hiddenLayout hidden model other
+      → Same hiddenLayout hidden (final outerLayout hiddenLayout turns model) (final outerLayout hiddenLayout (only hidden ys) other)
+      × (repliesOf outerLayout hiddenLayout hidden turns (replies outerLayout hiddenLayout turns model)
+      ≡ replies outerLayout hiddenLayout (only hidden ys) other)
   unfolding final replies repliesOf sideReply only
   hidden-alone none model other s = (s, refl)
   hidden-alone (fromOuter {call = call} merged) model other s =
-      hidden-alone merged (next outerLayout innerLayout (turn outer call) model) other
-      (same-trans (next-outer-same outerLayout innerLayout nest call model) s)
+      hidden-alone merged (next outerLayout hiddenLayout (turn outer call) model) other
+      (same-trans (next-outer-same outerLayout hiddenLayout nest call model) s)
   hidden-alone (fromHidden {call = call} merged) model other s =
       let rest =
-      hidden-alone merged (next outerLayout innerLayout (turn hidden call) model) (next outerLayout innerLayout (turn hidden call) other)
-      (next-same outerLayout innerLayout nest hidden call model other s) in
-      (rest .0, ap₂ _∷_ (reply-hidden-same outerLayout innerLayout nest call model other s) (rest .1))
+      hidden-alone merged (next outerLayout hiddenLayout (turn hidden call) model) (next outerLayout hiddenLayout (turn hidden call) other)
+      (next-same outerLayout hiddenLayout nest hidden call model other s) in
+      (rest .0, ap₂ _∷_ (reply-hidden-same outerLayout hiddenLayout nest call model other s) (rest .1))
 
-  outer-alone : {xs ys : List Call} {turns : List Turn} → Interleaves xs ys turns → (model other : Model) → Same innerLayout outer model other
-      → Same innerLayout outer (final outerLayout innerLayout turns model) (final outerLayout innerLayout (only outer xs) other)
-      × (shown outerLayout innerLayout xs (repliesOf outerLayout innerLayout outer turns (replies outerLayout innerLayout turns model))
-      ≡ shown outerLayout innerLayout xs (replies outerLayout innerLayout (only outer xs) other))
+  outer-alone : {xs ys : List Call} {turns : List Turn} → Interleaves xs ys turns → (model other : Model) → Same hiddenLayout outer model other
+      → Same hiddenLayout outer (final outerLayout hiddenLayout turns model) (final outerLayout hiddenLayout (only outer xs) other)
+      × (shown outerLayout hiddenLayout xs (repliesOf outerLayout hiddenLayout outer turns (replies outerLayout hiddenLayout turns model))
+      ≡ shown outerLayout hiddenLayout xs (replies outerLayout hiddenLayout (only outer xs) other))
   unfolding final replies repliesOf sideReply only shown reply
   outer-alone none model other s = (s, refl)
   outer-alone (fromOuter {call = call} merged) model other s =
       let rest =
-      outer-alone merged (next outerLayout innerLayout (turn outer call) model) (next outerLayout innerLayout (turn outer call) other)
-      (next-same outerLayout innerLayout nest outer call model other s) in (
+      outer-alone merged (next outerLayout hiddenLayout (turn outer call) model) (next outerLayout hiddenLayout (turn outer call) other)
+      (next-same outerLayout hiddenLayout nest outer call model other s) in (
         rest .0,
         λ i. record {
-          answer = judged-same outerLayout innerLayout outer call model other s i;
-          pieces = shown-outer-same outerLayout innerLayout nest call model other s i;
+          answer = judged-same outerLayout hiddenLayout outer call model other s i;
+          pieces = shown-outer-same outerLayout hiddenLayout nest call model other s i;
         }
             ∷ rest .1 i,
       )
   outer-alone (fromHidden {call = call} merged) model other s =
-      outer-alone merged (next outerLayout innerLayout (turn hidden call) model) other
-      (same-trans (next-hidden-same outerLayout innerLayout nest call model) s)
+      outer-alone merged (next outerLayout hiddenLayout (turn hidden call) model) other
+      (same-trans (next-hidden-same outerLayout hiddenLayout nest call model) s)
 
   pub model-independent : (xs ys : List Call) (turns others : List Turn) (model : Model) → Interleaves xs ys turns → Interleaves xs ys others
-      → (final outerLayout innerLayout turns model ≡ final outerLayout innerLayout others model)
-      × ((repliesOf outerLayout innerLayout hidden turns (replies outerLayout innerLayout turns model)
-      ≡ repliesOf outerLayout innerLayout hidden others (replies outerLayout innerLayout others model))
-      × (shown outerLayout innerLayout xs (repliesOf outerLayout innerLayout outer turns (replies outerLayout innerLayout turns model))
-      ≡ shown outerLayout innerLayout xs (repliesOf outerLayout innerLayout outer others (replies outerLayout innerLayout others model))))
+      → (final outerLayout hiddenLayout turns model ≡ final outerLayout hiddenLayout others model)
+      × ((repliesOf outerLayout hiddenLayout hidden turns (replies outerLayout hiddenLayout turns model)
+      ≡ repliesOf outerLayout hiddenLayout hidden others (replies outerLayout hiddenLayout others model))
+      × (shown outerLayout hiddenLayout xs (repliesOf outerLayout hiddenLayout outer turns (replies outerLayout hiddenLayout turns model))
+      ≡ shown outerLayout hiddenLayout xs (repliesOf outerLayout hiddenLayout outer others (replies outerLayout hiddenLayout others model))))
   model-independent xs ys turns others model merged otherwise =
       let h = hidden-alone merged model model same-refl in
       let k = hidden-alone otherwise model model same-refl in
       let o = outer-alone merged model model same-refl in
       let p = outer-alone otherwise model model same-refl in (
-        same-both innerLayout (final outerLayout innerLayout turns model) (final outerLayout innerLayout others model)
+        same-both hiddenLayout (final outerLayout hiddenLayout turns model) (final outerLayout hiddenLayout others model)
             (same-trans (o .0) (same-sym (p .0))) (same-trans (h .0) (same-sym (k .0))),
         (h .1 ∙ sym (k .1), o .1 ∙ sym (p .1)),
       )

@@ -11,20 +11,20 @@ use Rattle.guarantees.specs.Interleaving.{contents}
 use Rattle.guarantees.proofs.NestLaws.{Nest}
 use Rattle.guarantees.proofs.NextLaws.{sector-next}
 
-module _ (outerLayout innerLayout : Layout) (nest : Nest outerLayout innerLayout) where
-  pub model-last-write : (turns : List Turn) (model : Model) (host : ℕ) → sectorAt host (final outerLayout innerLayout turns model .image)
-      ≡ contents outerLayout innerLayout host turns (replies outerLayout innerLayout turns model) (sectorAt host (model .image))
+module _ (outerLayout hiddenLayout : Layout) (nest : Nest outerLayout hiddenLayout) where
+  pub model-last-write : (turns : List Turn) (model : Model) (host : ℕ) → sectorAt host (final outerLayout hiddenLayout turns model .image)
+      ≡ contents outerLayout hiddenLayout host turns (replies outerLayout hiddenLayout turns model) (sectorAt host (model .image))
   unfolding final replies contents reply
   model-last-write [] model host = refl
   model-last-write (turn ∷ turns) model host =
-      rw (← sector-next outerLayout innerLayout nest turn model host) (model-last-write turns (next outerLayout innerLayout turn model) host)
+      rw (← sector-next outerLayout hiddenLayout nest turn model host) (model-last-write turns (next outerLayout hiddenLayout turn model) host)
 
   pub model-reads-left : (before : List Turn) (call : Turn) (model : Model) → call .call .kind ≡ reads
-      → reply outerLayout innerLayout call (final outerLayout innerLayout before model) .answer ≡ 0
-      → reply outerLayout innerLayout call (final outerLayout innerLayout before model) .buffer
-      ≡ gather (λ host. contents outerLayout innerLayout host before (replies outerLayout innerLayout before model) (sectorAt host (model .image)))
-      (hostsOf outerLayout innerLayout call)
+      → reply outerLayout hiddenLayout call (final outerLayout hiddenLayout before model) .answer ≡ 0
+      → reply outerLayout hiddenLayout call (final outerLayout hiddenLayout before model) .buffer
+      ≡ gather (λ host. contents outerLayout hiddenLayout host before (replies outerLayout hiddenLayout before model) (sectorAt host (model .image)))
+      (hostsOf outerLayout hiddenLayout call)
   unfolding reply bufferAfter hostsOf
   model-reads-left before call model kind answer =
       rw (answer, kind)
-      (ap (λ f. gather f (hostsOf outerLayout innerLayout call)) (fun-ext (λ host. model-last-write before model host)))
+      (ap (λ f. gather f (hostsOf outerLayout hiddenLayout call)) (fun-ext (λ host. model-last-write before model host)))

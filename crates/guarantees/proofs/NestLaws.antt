@@ -12,22 +12,22 @@ use Rattle.guarantees.proofs.Reflects.{Reflects, is-true, reflects-map,
 use Rattle.guarantees.proofs.ViewLaws.{view-reflects}
 
 -- two sound layouts that nest
-pub record Nest (outer inner : Layout) : Type 0 where
+pub record Nest (outer hiddenLayout : Layout) : Type 0 where
   pub outerSound : Sound outer
-  pub innerSound : Sound inner
-  pub nested : Nested outer inner
+  pub hiddenSound : Sound hiddenLayout
+  pub nested : Nested outer hiddenLayout
 
-pub nests-reflects : (outer inner : Layout) → Reflects (Nested outer inner) (nests outer inner)
+pub nests-reflects : (outer hiddenLayout : Layout) → Reflects (Nested outer hiddenLayout) (nests outer hiddenLayout)
 unfolding nests areaEnd
-nests-reflects outer inner =
-    reflects-map (λ p. record { standardOuter = p .0 .0 .0 .0; hiddenInner = p .0 .0 .0 .1; sameHost = p .0 .0 .1; starts = p .0 .1; ends = p .1 })
-    (λ n. ((((n .standardOuter, n .hiddenInner), n .sameHost), n .starts), n .ends))
+nests-reflects outer hiddenLayout =
+    reflects-map (λ p. record { firstStandard = p .0 .0 .0 .0; secondHidden = p .0 .0 .0 .1; sameHost = p .0 .0 .1; starts = p .0 .1; ends = p .1 })
+    (λ n. ((((n .firstStandard, n .secondHidden), n .sameHost), n .starts), n .ends))
     (reflects-and
     (reflects-and
-    (reflects-and (reflects-and (reflects-eqb (outer .kind) standard) (reflects-eqb (inner .kind) hidden))
-    (reflects-eqb (outer .«host_size») (inner .«host_size»)))
-    (reflects-leb (outer .«data_start») (inner .«data_start»)))
-    (reflects-leb (areaEnd inner) (areaEnd outer)))
+    (reflects-and (reflects-and (reflects-eqb (outer .kind) standard) (reflects-eqb (hiddenLayout .kind) hidden))
+    (reflects-eqb (outer .«host_size») (hiddenLayout .«host_size»)))
+    (reflects-leb (outer .«data_start») (hiddenLayout .«data_start»)))
+    (reflects-leb (areaEnd hiddenLayout) (areaEnd outer)))
 
 module _ (layout : Layout) (locked : Bool) (s : Sound layout) where
   pub plain-sound : SoundView (plain layout locked)
@@ -37,16 +37,16 @@ module _ (layout : Layout) (locked : Bool) (s : Sound layout) where
   pub sound-view-plain : soundView (plain layout locked) ≡ true
   sound-view-plain = is-true (view-reflects (plain layout locked)) plain-sound
 
-module _ (outer inner : Layout) (locked : Bool) (n : Nest outer inner) where
-  pub protecting-sound : SoundView (protecting outer inner locked)
+module _ (outer hiddenLayout : Layout) (locked : Bool) (n : Nest outer hiddenLayout) where
+  pub protecting-sound : SoundView (protecting outer hiddenLayout locked)
   unfolding SoundRange
   protecting-sound =
-      let area = n .innerSound .area in
+      let area = n .hiddenSound .area in
       record {
         layoutSound = n .outerSound;
         rangeSound =
             record {
-              standardVolume = n .nested .standardOuter;
+              standardVolume = n .nested .firstStandard;
               firstMultiple = area .startMultiple;
               endMultiple = omega (arith, area .startMultiple, area .sizeMultiple);
               notEmpty = omega (arith, area .atLeast);
@@ -55,5 +55,5 @@ module _ (outer inner : Layout) (locked : Bool) (n : Nest outer inner) where
             };
       }
 
-  pub sound-view-protected : soundView (protecting outer inner locked) ≡ true
-  sound-view-protected = is-true (view-reflects (protecting outer inner locked)) protecting-sound
+  pub sound-view-protected : soundView (protecting outer hiddenLayout locked) ≡ true
+  sound-view-protected = is-true (view-reflects (protecting outer hiddenLayout locked)) protecting-sound

@@ -10,7 +10,7 @@ use Rattle.layout.specs.declared.Opened.{Opened}
 use Rattle.layout.specs.declared.Opened.the-variants.{Accepted, Refused}
 use Rattle.opening.specs.Locations.{locations, locationOf, offsetFrom, located}
 use Rattle.opening.specs.Opening.{judgements, searchFrom, opened}
-use Rattle.opening.specs.declared.Located.the-variants.{At}
+use Rattle.answers.specs.declared.Numbered.the-variants.{Number}
 use Rattle.guarantees.specs.Opening.{Lengths, Codes, HostSize, Allowed, OpensExactlyWhen, LocatesHeaders}
 use Rattle.guarantees.proofs.Reflects.{Reflects, holds, fails, is-true, is-false}
 use Rattle.guarantees.proofs.RuleLaws.{lengths-reflects, code-reflects, codes-reflects, host-size-reflects}
@@ -63,7 +63,7 @@ opens-exactly-when candidates codes hostSize =
     }
 
 located-at : (code hostSize : ℕ) → code ≤ 3 → HostSize hostSize
-    → located code hostSize ≡ At (offsetFrom (locationOf code .origin) hostSize (locationOf code .distance))
+    → located code hostSize ≡ Number (offsetFrom (locationOf code .origin) hostSize (locationOf code .distance))
 unfolding located
 located-at code hostSize known size = simp (is-true (code-reflects code) known, is-true (host-size-reflects hostSize) size)
 

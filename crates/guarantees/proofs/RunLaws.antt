@@ -18,30 +18,30 @@ run-exists state (call ∷ turns) =
     let rest = run-exists (one .1) turns in
     (one .0 ∷ rest .0, rest .1, step (one .2) (rest .2))
 
-module _ (outerLayout innerLayout : Layout) where
+module _ (outerLayout hiddenLayout : Layout) where
   -- .. from any model on
-  pub run-agrees-from : Nest outerLayout innerLayout → {state last : State} {turns : List Turn} {answers : List Reply} → Run state turns answers last
-      → (model : Model) → state ≡ stateOf outerLayout innerLayout model
-      → (answers ≡ replies outerLayout innerLayout turns model) × (last ≡ stateOf outerLayout innerLayout (final outerLayout innerLayout turns model))
+  pub run-agrees-from : Nest outerLayout hiddenLayout → {state last : State} {turns : List Turn} {answers : List Reply} → Run state turns answers last
+      → (model : Model) → state ≡ stateOf outerLayout hiddenLayout model
+      → (answers ≡ replies outerLayout hiddenLayout turns model) × (last ≡ stateOf outerLayout hiddenLayout (final outerLayout hiddenLayout turns model))
   unfolding replies final
   run-agrees-from nest done model e = (refl, e)
   run-agrees-from nest (step {call = call} one rest) model e =
-      let first = step-agrees outerLayout innerLayout nest one model e in
-      let others = run-agrees-from nest rest (next outerLayout innerLayout call model) (first .1) in
+      let first = step-agrees outerLayout hiddenLayout nest one model e in
+      let others = run-agrees-from nest rest (next outerLayout hiddenLayout call model) (first .1) in
       (ap₂ (λ answer answers. answer ∷ answers) (first .0) (others .0), others .1)
 
   module _ (outerLocked hiddenLocked : Bool) (image : List ℕ) where
-    pub start-state-of : start outerLayout innerLayout outerLocked hiddenLocked image
-        ≡ stateOf outerLayout innerLayout (modelStart outerLayout innerLayout outerLocked hiddenLocked image)
+    pub start-state-of : start outerLayout hiddenLayout outerLocked hiddenLocked image
+        ≡ stateOf outerLayout hiddenLayout (modelStart outerLayout hiddenLayout outerLocked hiddenLocked image)
     unfolding start modelStart stateOf
     start-state-of = refl
 
-    pub run-agrees : Nest outerLayout innerLayout
-        → (turns : List Turn) (answers : List Reply) (last : State) → Run (start outerLayout innerLayout outerLocked hiddenLocked image) turns answers last
-        → Agrees outerLayout innerLayout outerLocked hiddenLocked image turns answers last
+    pub run-agrees : Nest outerLayout hiddenLayout
+        → (turns : List Turn) (answers : List Reply) (last : State) → Run (start outerLayout hiddenLayout outerLocked hiddenLocked image) turns answers last
+        → Agrees outerLayout hiddenLayout outerLocked hiddenLocked image turns answers last
     unfolding stateOf
     run-agrees nest turns answers last run =
-        let agrees = run-agrees-from nest run (modelStart outerLayout innerLayout outerLocked hiddenLocked image) start-state-of in
+        let agrees = run-agrees-from nest run (modelStart outerLayout hiddenLayout outerLocked hiddenLocked image) start-state-of in
         record {
           sameReplies = agrees .0;
           sameImage = ap (λ state. state .image) (agrees .1);

@@ -7,7 +7,7 @@ use mathlib.Core.List.{List}
 use lib.ListN.{getD}
 use Rattle.layout.specs.declared.Layout.{Layout}
 use Rattle.sector_map.specs.SectorMap.{sectors, sectorCount, hostSector, userSector, tweakNumber, blockOf, tweakOf}
-use Rattle.sector_map.specs.declared.Mapped.the-variants.{Number}
+use Rattle.answers.specs.declared.Numbered.the-variants.{Number}
 use Rattle.guarantees.specs.Header.{dataArea, Keeps}
 use Rattle.guarantees.specs.Opening.{HostSize, IsAccepted, TellsAt}
 use Rattle.guarantees.specs.SectorMap.{Sound, MapsSectors, RefusesUnsound, MapsExactly, OpenedIsSound}

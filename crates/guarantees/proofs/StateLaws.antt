@@ -9,34 +9,34 @@ use Rattle.layout.specs.declared.Layout.{Layout}
 use Rattle.view.specs.Access.{after}
 use Rattle.view.specs.Views.{soundView}
 use Rattle.view.specs.declared.View.{View}
-use Rattle.guarantees.specs.Interleaving.{State, put, viewOf}
-use Rattle.guarantees.specs.ReferenceModel.{Side, outer, hidden, Model, lockOf, layoutOf, lockAfter}
+use Rattle.guarantees.specs.Interleaving.{State, put, sideView}
+use Rattle.guarantees.specs.ReferenceModel.{Side, outer, hidden, Model, lockOf, sideLayout, lockAfter}
 use Rattle.guarantees.specs.SectorMap.{Sound}
 use Rattle.guarantees.specs.Views.{plain, protecting}
 use Rattle.guarantees.proofs.NestLaws.{Nest, sound-view-plain, sound-view-protected}
 
-module _ (outerLayout innerLayout : Layout) where
+module _ (outerLayout hiddenLayout : Layout) where
   -- the view of a side, with its lock
   unfoldable pub viewFor : Side → Bool → View
-  viewFor outer locked = protecting outerLayout innerLayout locked
-  viewFor hidden locked = plain innerLayout locked
+  viewFor outer locked = protecting outerLayout hiddenLayout locked
+  viewFor hidden locked = plain hiddenLayout locked
 
   -- the state of a model
   unfoldable pub stateOf : Model → State
   stateOf model =
       record {
-        outerView = protecting outerLayout innerLayout (model .outerLocked);
-        hiddenView = plain innerLayout (model .hiddenLocked);
+        outerView = protecting outerLayout hiddenLayout (model .outerLocked);
+        hiddenView = plain hiddenLayout (model .hiddenLocked);
         image = model .image;
       }
 
-  pub view-of-state-of : (side : Side) (model : Model) → viewOf side (stateOf model) ≡ viewFor side (lockOf side model)
-  unfolding viewOf stateOf viewFor lockOf
+  pub view-of-state-of : (side : Side) (model : Model) → sideView side (stateOf model) ≡ viewFor side (lockOf side model)
+  unfolding sideView stateOf viewFor lockOf
   view-of-state-of outer model = refl
   view-of-state-of hidden model = refl
 
-  pub layout-view-for : (side : Side) (locked : Bool) → viewFor side locked .layout ≡ layoutOf outerLayout innerLayout side
-  unfolding viewFor layoutOf
+  pub layout-view-for : (side : Side) (locked : Bool) → viewFor side locked .layout ≡ sideLayout outerLayout hiddenLayout side
+  unfolding viewFor sideLayout
   layout-view-for outer locked = refl
   layout-view-for hidden locked = refl
 
@@ -57,13 +57,13 @@ module _ (outerLayout innerLayout : Layout) where
   put-state-of outer number image model = refl
   put-state-of hidden number image model = refl
 
-  module _ (nest : Nest outerLayout innerLayout) where
-    pub sound-layout-of : (side : Side) → Sound (layoutOf outerLayout innerLayout side)
-    unfolding layoutOf
+  module _ (nest : Nest outerLayout hiddenLayout) where
+    pub sound-layout-of : (side : Side) → Sound (sideLayout outerLayout hiddenLayout side)
+    unfolding sideLayout
     sound-layout-of outer = nest .outerSound
-    sound-layout-of hidden = nest .innerSound
+    sound-layout-of hidden = nest .hiddenSound
 
     pub sound-view-for : (side : Side) (locked : Bool) → soundView (viewFor side locked) ≡ true
     unfolding viewFor
-    sound-view-for outer locked = sound-view-protected outerLayout innerLayout locked nest
-    sound-view-for hidden locked = sound-view-plain innerLayout locked (nest .innerSound)
+    sound-view-for outer locked = sound-view-protected outerLayout hiddenLayout locked nest
+    sound-view-for hidden locked = sound-view-plain hiddenLayout locked (nest .hiddenSound)

@@ -6,7 +6,7 @@ use mathlib.Core.Path.{_≡_, sym}
 use mathlib.Core.Bool.{Bool, _||_}
 use Rattle.layout.specs.declared.Layout.{Layout}
 use Rattle.sector_map.specs.SectorMap.{sectors, firstSector}
-use Rattle.sector_map.specs.declared.Mapped.{Mapped}
+use Rattle.answers.specs.declared.Numbered.{Numbered}
 use Rattle.view.specs.Access.{extentStart, touches}
 use Rattle.view.specs.Views.{areaEnd}
 use Rattle.view.specs.declared.Protection.the-variants.{Protected}
@@ -22,25 +22,25 @@ pub reflects-same : {P : Type 0} {a b : Bool} → Reflects P a → Reflects P b 
 reflects-same (holds p) r = sym (is-true r p)
 reflects-same (fails f) r = sym (is-false r f)
 
-pub is-number-reflects : {P : Type 0} {n : ℕ} {m : Mapped} → Answers P n m → Reflects P (isNumber m)
+pub is-number-reflects : {P : Type 0} {n : ℕ} {m : Numbered} → Answers P n m → Reflects P (isNumber m)
 unfolding isNumber
 is-number-reflects (answersNumber p) = holds p
 is-number-reflects (answers16 f) = fails f
 
-module _ (inner : Layout) (s : Sound inner) where
+module _ (hiddenLayout : Layout) (s : Sound hiddenLayout) where
   -- so many sectors from a host sector on have one of the data area's
   record Meets (host count : ℕ) : Type 0 where
     some : 0 < count
-    before : host * 512 < inner .«data_start» + inner .«data_size»
-    behind : inner .«data_start» < (host + count) * 512
+    before : host * 512 < hiddenLayout .«data_start» + hiddenLayout .«data_size»
+    behind : hiddenLayout .«data_start» < (host + count) * 512
 
-  any-protected-reflects : (host count : ℕ) → Reflects (Meets host count) (anyProtected inner (consecutive host count))
+  any-protected-reflects : (host count : ℕ) → Reflects (Meets host count) (anyProtected hiddenLayout (consecutive host count))
   unfolding anyProtected consecutive isProtected
   any-protected-reflects host zero = fails (λ m. omega arith)
   any-protected-reflects host (suc count) =
-      go (is-number-reflects (user-sector-answers inner s host)) (any-protected-reflects (suc host) count) (reflects-leb (inner .«data_start») (host * 512))
+      go (is-number-reflects (user-sector-answers hiddenLayout s host)) (any-protected-reflects (suc host) count) (reflects-leb (hiddenLayout .«data_start») (host * 512))
     where
-      go : {a b c : Bool} → Reflects (InArea inner host) a → Reflects (Meets (suc host) count) b → Reflects (inner .«data_start» ≤ host * 512) c
+      go : {a b c : Bool} → Reflects (InArea hiddenLayout host) a → Reflects (Meets (suc host) count) b → Reflects (hiddenLayout .«data_start» ≤ host * 512) c
           → Reflects (Meets host (suc count)) (a || b)
       go (holds i) r d = holds (omega arith)
       go (fails f) (holds m) d = holds (omega arith)
@@ -48,12 +48,12 @@ module _ (inner : Layout) (s : Sound inner) where
       go (fails f) (fails g) (fails d) = fails (λ m. g (omega arith))
 
   pub touches-any-protected : (outer : Layout) → Sound outer → (first count : ℕ) → first + count ≤ sectors outer
-      → touches outer (Protected (inner .«data_start») (areaEnd inner)) first count ≡ anyProtected inner (covers outer first count)
+      → touches outer (Protected (hiddenLayout .«data_start») (areaEnd hiddenLayout)) first count ≡ anyProtected hiddenLayout (covers outer first count)
   unfolding touches areaEnd extentStart firstSector
   touches-any-protected outer t first count inside =
       rw (covers-extent outer t first count inside)
       (reflects-same
       (reflects-map (λ p. omega arith) (λ m. omega arith)
-      (reflects-and (reflects-and (reflects-leb 1 count) (reflects-leb (suc (extentStart outer first)) (areaEnd inner)))
-      (reflects-leb (suc (inner .«data_start»)) (extentStart outer (first + count)))))
+      (reflects-and (reflects-and (reflects-leb 1 count) (reflects-leb (suc (extentStart outer first)) (areaEnd hiddenLayout)))
+      (reflects-leb (suc (hiddenLayout .«data_start»)) (extentStart outer (first + count)))))
       (any-protected-reflects (firstSector outer + first) count))

@@ -7,15 +7,15 @@ use Rattle.guarantees.proofs.Reflects.{is-true, is-false, reflects-and}
 use Rattle.guarantees.proofs.SoundLaws.{sound-reflects}
 use Rattle.guarantees.proofs.NestLaws.{nests-reflects, plain-sound, protecting-sound}
 
-pub makes-views : (outer inner : Layout) → MakesViews outer inner
+pub makes-views : (outer hiddenLayout : Layout) → MakesViews outer hiddenLayout
 unfolding plainView protectedView plainOf protectedOf areaEnd
-makes-views outer inner =
+makes-views outer hiddenLayout =
     record {
       plainMade = λ s. simp (is-true (sound-reflects outer) s);
       plainUnsound = λ f. simp (is-false (sound-reflects outer) f);
-      guardedMade = λ s t n. simp (is-true (sound-reflects outer) s, is-true (sound-reflects inner) t, is-true (nests-reflects outer inner) n);
-      guardedUnsound = λ f. simp (is-false (reflects-and (sound-reflects outer) (sound-reflects inner)) f);
-      guardedApart = λ s t f. simp (is-true (sound-reflects outer) s, is-true (sound-reflects inner) t, is-false (nests-reflects outer inner) f);
+      guardedMade = λ s t n. simp (is-true (sound-reflects outer) s, is-true (sound-reflects hiddenLayout) t, is-true (nests-reflects outer hiddenLayout) n);
+      guardedUnsound = λ f. simp (is-false (reflects-and (sound-reflects outer) (sound-reflects hiddenLayout)) f);
+      guardedApart = λ s t f. simp (is-true (sound-reflects outer) s, is-true (sound-reflects hiddenLayout) t, is-false (nests-reflects outer hiddenLayout) f);
       plainSound = plain-sound outer;
-      guardedSound = λ locked s t n. protecting-sound outer inner locked (record { outerSound = s; innerSound = t; nested = n });
+      guardedSound = λ locked s t n. protecting-sound outer hiddenLayout locked (record { outerSound = s; hiddenSound = t; nested = n });
     }

@@ -6,7 +6,7 @@ use Rattle.crc32.specs.Crc32.{crc32, crcFrom, bitSteps, bitStep}
 use Rattle.layout.specs.Rules.{hostSizeRule, dataAreaRule, startRule, endRule}
 use Rattle.layout.specs.Soundness.{sound}
 use Rattle.header.specs.Bytes.{sameBytes, allZero}
-use Rattle.header.specs.Header.{magicOf, fieldsOf, checksumsMatch, isHeader, layoutOf, answer, judge}
+use Rattle.header.specs.Header.{magicOf, fieldsOf, checksumsMatch, isHeader, acceptedLayout, answer, judge}
 use Rattle.header.specs.Header.{versionRule, reservedRule, flagsRule, sectorSizeRule, hiddenSizeRule, areaRule, firstBroken}
 use Rattle.opening.specs.Locations.{locations, locationOf, codeRule}
 use Rattle.opening.specs.Opening.{lengthsRule, codesRule, candidateAt, judgements, firstRefusal, searchFrom, opened}
@@ -19,7 +19,7 @@ use Rattle.guarantees.specs.WorkedCases.{onView, writing, reading, leavi
 pub as-worked : AsWorked
 unfolding AsWorked cases opens shown headerWith fieldBytes bytesOf volumeM volumeN mappedShown tweakShown
     opened lengthsRule codesRule codeRule hostSizeRule searchFrom firstRefusal judgements candidateAt locationOf locations
-    judge isHeader magicOf fieldsOf checksumsMatch sameBytes allZero answer layoutOf
+    judge isHeader magicOf fieldsOf checksumsMatch sameBytes allZero answer acceptedLayout
     firstBroken versionRule reservedRule flagsRule sectorSizeRule hiddenSizeRule areaRule dataAreaRule startRule endRule
     crc32 crcFrom bitStep bitSteps bigEndian bigEndianFrom littleEndian
     hostSector userSector tweakNumber tweakOf blockOf sectors firstSector sound littleEndianBytes

@@ -8,8 +8,8 @@ use mathlib.Core.List.{List, [], _∷_}
 use lib.Dec.{leb, ltb, eqb}
 use lib.ListN.{length}
 use Rattle.view.specs.Access.{readNumber, writeNumber, filledBy, writtenBy, ReadPost, WritePost}
-use Rattle.view.specs.declared.Answer.{Answer}
-use Rattle.view.specs.declared.Answer.the-variants.{Accepted, Refused}
+use Rattle.answers.specs.declared.Answer.{Answer}
+use Rattle.answers.specs.declared.Answer.the-variants.{Accepted, Refused}
 use Rattle.view.specs.declared.Outcome.{Outcome}
 use Rattle.view.specs.declared.Protection.{Protection}
 use Rattle.view.specs.declared.Protection.the-variants.{Unprotected, Protected}

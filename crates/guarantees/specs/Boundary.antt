@@ -7,37 +7,35 @@ use mathlib.Core.Bool.{Bool, not, cond}
 use mathlib.Core.List.{List, [], _∷_, _++_}
 use lib.Dec.{eqb}
 use lib.ListN.{length, take}
-use Rattle.layout.specs.Answer.{numberOf}
+use Rattle.answers.specs.Answers.{numberedRefusal, answerRefusal}
+use Rattle.layout.specs.Opened.{openedRefusal}
 use Rattle.layout.specs.declared.Layout.{Layout}
 use Rattle.layout.specs.declared.Opened.the-variants as opening
-use Rattle.opening.specs.Locations.{located, locatedNumber}
+use Rattle.opening.specs.Locations.{located}
 use Rattle.opening.specs.Opening.{opened}
-use Rattle.opening.specs.declared.Located.the-variants as locating
-use Rattle.sector_map.specs.SectorMap.{hostSector, userSector, tweakOf, mappedRefusal}
-use Rattle.sector_map.specs.declared.Mapped.the-variants as mapping
-use Rattle.view.specs.Access.{readNumber, writeNumber, answerNumber, ReadPost, WritePost}
+use Rattle.sector_map.specs.SectorMap.{hostSector, userSector, tweakOf}
+use Rattle.answers.specs.declared.Numbered.the-variants as numbered
+use Rattle.view.specs.Access.{readNumber, writeNumber, ReadPost, WritePost}
 use Rattle.view.specs.Views.{plainView, protectedView, viewedRefusal}
-use Rattle.view.specs.declared.Answer.the-variants as access
+use Rattle.answers.specs.declared.Answer.the-variants as access
 use Rattle.view.specs.declared.Outcome.{Outcome}
 use Rattle.view.specs.declared.Protection.{Protection}
 use Rattle.view.specs.declared.Protection.the-variants.{Unprotected, Protected}
 use Rattle.view.specs.declared.View.{View}
 use Rattle.view.specs.declared.Viewed.the-variants as making
-use Rattle.ondristela.specs.Boundary.{layoutOf, viewOf, WriteCall}
-use Rattle.ondristela.specs.Boundary.{locatedLeft, openedLeft, keysLeft, mappedLeft, blockLeft, viewedLeft}
+use Rattle.ondristela.specs.Boundary.{layoutFrom, viewFrom, WriteCall}
+use Rattle.ondristela.specs.Boundary.{numberedLeft, openedLeft, keysLeft, numberedLeft, blockLeft, viewedLeft}
 
 -- every refusal is told by its own number, and every acceptance by 0
 pub record TellsNumbers : Type 0 where
-  pub openedAccepted : (layout : Layout) → numberOf (opening.Accepted layout) ≡ 0
-  pub openedRefused : (number : ℕ) → numberOf (opening.Refused number) ≡ number
-  pub locatedAccepted : (offset : ℕ) → locatedNumber (locating.At offset) ≡ 0
-  pub locatedRefused : (number : ℕ) → locatedNumber (locating.Refused number) ≡ number
-  pub mappedAccepted : (sector : ℕ) → mappedRefusal (mapping.Number sector) ≡ 0
-  pub mappedRefused : (number : ℕ) → mappedRefusal (mapping.Refused number) ≡ number
+  pub openedAccepted : (layout : Layout) → openedRefusal (opening.Accepted layout) ≡ 0
+  pub openedRefused : (number : ℕ) → openedRefusal (opening.Refused number) ≡ number
+  pub numberedAccepted : (number : ℕ) → numberedRefusal (numbered.Number number) ≡ 0
+  pub numberedRefused : (number : ℕ) → numberedRefusal (numbered.Refused number) ≡ number
   pub madeAccepted : (view : View) → viewedRefusal (making.Made view) ≡ 0
   pub madeRefused : (number : ℕ) → viewedRefusal (making.Refused number) ≡ number
-  pub accessAccepted : answerNumber access.Accepted ≡ 0
-  pub accessRefused : (number : ℕ) → answerNumber (access.Refused number) ≡ number
+  pub accessAccepted : answerRefusal access.Accepted ≡ 0
+  pub accessRefused : (number : ℕ) → answerRefusal (access.Refused number) ≡ number
 
 -- an answer's number is 0 exactly where the answer is an acceptance
 pub record ZeroAccepts {A R : Type 0} (number : R → ℕ) (accepted : A → R) (answer : R) : Type 0 where
@@ -48,13 +46,13 @@ pub record ZeroAccepts {A R : Type 0} (number : R → ℕ) (accepted : A → R) 
 
 -- no call is refused by 0, so 0 tells an acceptance and no refusal
 pub record ReturnsZero : Type 0 where
-  pub locates : (code hostSize : ℕ) → ZeroAccepts locatedNumber locating.At (located code hostSize)
-  pub opens : (candidates codes : List ℕ) (hostSize : ℕ) → ZeroAccepts numberOf opening.Accepted (opened candidates codes hostSize)
-  pub hostSectors : (layout : Layout) (user : ℕ) → ZeroAccepts mappedRefusal mapping.Number (hostSector layout user)
-  pub userSectors : (layout : Layout) (host : ℕ) → ZeroAccepts mappedRefusal mapping.Number (userSector layout host)
-  pub tweaks : (layout : Layout) (user : ℕ) → ZeroAccepts mappedRefusal mapping.Number (tweakOf layout user .number)
+  pub locates : (code hostSize : ℕ) → ZeroAccepts numberedRefusal numbered.Number (located code hostSize)
+  pub opens : (candidates codes : List ℕ) (hostSize : ℕ) → ZeroAccepts openedRefusal opening.Accepted (opened candidates codes hostSize)
+  pub hostSectors : (layout : Layout) (user : ℕ) → ZeroAccepts numberedRefusal numbered.Number (hostSector layout user)
+  pub userSectors : (layout : Layout) (host : ℕ) → ZeroAccepts numberedRefusal numbered.Number (userSector layout host)
+  pub tweaks : (layout : Layout) (user : ℕ) → ZeroAccepts numberedRefusal numbered.Number (tweakOf layout user .number)
   pub plainViews : (layout : Layout) → ZeroAccepts viewedRefusal making.Made (plainView layout)
-  pub protectedViews : (outer inner : Layout) → ZeroAccepts viewedRefusal making.Made (protectedView outer inner)
+  pub protectedViews : (outer hiddenLayout : Layout) → ZeroAccepts viewedRefusal making.Made (protectedView outer hiddenLayout)
   pub reads : (view : View) (image : List ℕ) (first count : ℕ) (buffer filled : List ℕ) (outcome : Outcome)
       → ReadPost view image first count buffer outcome filled
       → (readNumber view (length image) first count (length buffer) ≡ 0) ↔ (outcome .answer ≡ access.Accepted)
@@ -64,7 +62,7 @@ pub record ReturnsZero : Type 0 where
 
 -- the order of the numbers that are passed: struct ondristela_layout and struct ondristela_view
 pub record OrdersNumbers (host kind magic version program start size candidate protected first end lock : ℕ) : Type 0 where
-  pub layout : layoutOf (host ∷ kind ∷ magic ∷ version ∷ program ∷ start ∷ size ∷ candidate ∷ [])
+  pub layout : layoutFrom (host ∷ kind ∷ magic ∷ version ∷ program ∷ start ∷ size ∷ candidate ∷ [])
       ≡ record {
         «host_size» = host;
         kind = kind;
@@ -76,9 +74,9 @@ pub record OrdersNumbers (host kind magic version program start size candidate p
         candidate = candidate;
       }
   -- any number but 0 tells of a protected range, and of a closed lock
-  pub view : viewOf (host ∷ kind ∷ magic ∷ version ∷ program ∷ start ∷ size ∷ candidate ∷ protected ∷ first ∷ end ∷ lock ∷ [])
+  pub view : viewFrom (host ∷ kind ∷ magic ∷ version ∷ program ∷ start ∷ size ∷ candidate ∷ protected ∷ first ∷ end ∷ lock ∷ [])
       ≡ record {
-        layout = layoutOf (host ∷ kind ∷ magic ∷ version ∷ program ∷ start ∷ size ∷ candidate ∷ []);
+        layout = layoutFrom (host ∷ kind ∷ magic ∷ version ∷ program ∷ start ∷ size ∷ candidate ∷ []);
         protection = cond (eqb protected 0) Unprotected (Protected first end);
         locked = not (eqb lock 0);
       }
@@ -95,8 +93,6 @@ storedProtection (Protected first end) = 1 ∷ first ∷ end ∷ []
 
 -- what each call stores: on an acceptance the answer's own numbers, on a refusal nothing, but that a write's 18 closes the view's lock
 pub record StoresAnswers (before : List ℕ) : Type 0 where
-  pub offset : (offset : ℕ) → locatedLeft (locating.At offset) before ≡ offset ∷ []
-  pub noOffset : (number : ℕ) → locatedLeft (locating.Refused number) before ≡ before
   pub layout : (layout : Layout) → openedLeft (opening.Accepted layout) before ≡ storedLayout layout
   pub noLayout : (number : ℕ) → openedLeft (opening.Refused number) before ≡ before
   -- the offset and the length of the key bytes, which lie inside the candidates
@@ -104,14 +100,14 @@ pub record StoresAnswers (before : List ℕ) : Type 0 where
   pub keysInside : (candidates codes : List ℕ) (hostSize : ℕ) (layout : Layout) → opened candidates codes hostSize ≡ opening.Accepted layout
       → layout .candidate * 512 + 256 + 256 ≤ length candidates
   pub noKeys : (number : ℕ) → keysLeft (opening.Refused number) before ≡ before
-  pub sector : (sector : ℕ) → mappedLeft (mapping.Number sector) before ≡ sector ∷ []
-  pub noSector : (number : ℕ) → mappedLeft (mapping.Refused number) before ≡ before
-  pub block : (sector : ℕ) (block : List ℕ) → blockLeft (mapping.Number sector) block before ≡ block
-  pub noBlock : (number : ℕ) (block : List ℕ) → blockLeft (mapping.Refused number) block before ≡ before
+  pub number : (number : ℕ) → numberedLeft (numbered.Number number) before ≡ number ∷ []
+  pub noNumber : (number : ℕ) → numberedLeft (numbered.Refused number) before ≡ before
+  pub block : (sector : ℕ) (block : List ℕ) → blockLeft (numbered.Number sector) block before ≡ block
+  pub noBlock : (number : ℕ) (block : List ℕ) → blockLeft (numbered.Refused number) block before ≡ before
   -- a view, and that the view comes back from its numbers
   pub view : (view : View)
       → viewedLeft (making.Made view) before ≡ storedLayout (view .layout) ++ storedProtection (view .protection) ++ cond (view .locked) 1 0 ∷ []
-  pub viewBack : (view : View) → viewOf (viewedLeft (making.Made view) before) ≡ view
+  pub viewBack : (view : View) → viewFrom (viewedLeft (making.Made view) before) ≡ view
   pub noView : (number : ℕ) → viewedLeft (making.Refused number) before ≡ before
   -- a write's numbers: 18 closes the lock, and any other number leaves them as they were
   pub closes : (image : List ℕ) (first count : ℕ) (buffer written left : List ℕ) → length before ≡ 12

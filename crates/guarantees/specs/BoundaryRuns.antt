@@ -7,7 +7,7 @@ use mathlib.Core.Bool.{false}
 use lib.ListN.{length}
 use Rattle.layout.specs.declared.Layout.{Layout}
 use Rattle.view.specs.Views.{plainView, protectedView}
-use Rattle.ondristela.specs.Boundary.{viewOf, viewedLeft, ReadCall, WriteCall}
+use Rattle.ondristela.specs.Boundary.{viewFrom, viewedLeft, ReadCall, WriteCall}
 use Rattle.guarantees.specs.Interleaving.{turn, State, Run}
 use Rattle.guarantees.specs.Interleaving as states
 use Rattle.guarantees.specs.ReferenceModel.{Side, outer, hidden, Turn, Reply}
@@ -28,7 +28,7 @@ pub record Twelve (numbers : Numbers) : Type 0 where
 
 -- the views that they tell
 unfoldable pub told : Numbers → State
-told numbers = record { outerView = viewOf (numbers .outerNumbers); hiddenView = viewOf (numbers .hiddenNumbers); image = numbers .image }
+told numbers = record { outerView = viewFrom (numbers .outerNumbers); hiddenView = viewFrom (numbers .hiddenNumbers); image = numbers .image }
 
 -- the numbers of a side
 unfoldable pub numbersOf : Side → Numbers → List ℕ
@@ -42,10 +42,10 @@ putNumbers hidden left image numbers = record { outerNumbers = numbers .outerNum
 
 -- what `ondristela_view_protected` and `ondristela_view_plain` store for an outer and a hidden layout, and an image
 unfoldable pub storedFor : Layout → Layout → List ℕ → List ℕ → List ℕ → Numbers
-storedFor outerLayout innerLayout before other image =
+storedFor outerLayout hiddenLayout before other image =
     record {
-      outerNumbers = viewedLeft (protectedView outerLayout innerLayout) before;
-      hiddenNumbers = viewedLeft (plainView innerLayout) other;
+      outerNumbers = viewedLeft (protectedView outerLayout hiddenLayout) before;
+      hiddenNumbers = viewedLeft (plainView hiddenLayout) other;
       image = image;
     }
 
@@ -75,8 +75,8 @@ pub record CarriesRuns (numbers : Numbers) : Type 0 where
       → Run (told numbers) turns answers (told last)
 
 -- where such runs begin: the numbers stored for the two views of demand 3 tell its start
-pub record BeginsRuns (outerLayout innerLayout : Layout) : Type 0 where
-  pub start : Sound outerLayout → Sound innerLayout → Nested outerLayout innerLayout → (before other image : List ℕ)
-      → told (storedFor outerLayout innerLayout before other image) ≡ states.start outerLayout innerLayout false false image
-  pub twelve : Sound outerLayout → Sound innerLayout → Nested outerLayout innerLayout → (before other image : List ℕ)
-      → Twelve (storedFor outerLayout innerLayout before other image)
+pub record BeginsRuns (outerLayout hiddenLayout : Layout) : Type 0 where
+  pub start : Sound outerLayout → Sound hiddenLayout → Nested outerLayout hiddenLayout → (before other image : List ℕ)
+      → told (storedFor outerLayout hiddenLayout before other image) ≡ states.start outerLayout hiddenLayout false false image
+  pub twelve : Sound outerLayout → Sound hiddenLayout → Nested outerLayout hiddenLayout → (before other image : List ℕ)
+      → Twelve (storedFor outerLayout hiddenLayout before other image)

@@ -32,19 +32,19 @@ pub record Claims : Type 0 where
   pub openedSound : OpenedIsSound
   pub maps : (layout : Layout) → MapsExactly layout
   -- views, and reads and writes on any of them
-  pub views : (outer inner : Layout) → MakesViews outer inner
+  pub views : (outer hiddenLayout : Layout) → MakesViews outer hiddenLayout
   pub accesses : (view : View) (image : List ℕ) (first count : ℕ) (buffer : List ℕ) → AccessesByTable view image first count buffer
   -- demand 3, and from two headers to it
-  pub demand3 : (outerLayout innerLayout : Layout) → Demand3 outerLayout innerLayout
-  pub fromHeaders : (outerHeader innerHeader : List ℕ) (outerCode innerCode hostSize : ℕ)
-      → FromHeaders outerHeader innerHeader outerCode innerCode hostSize
+  pub demand3 : (outerLayout hiddenLayout : Layout) → Demand3 outerLayout hiddenLayout
+  pub fromHeaders : (outerHeader hiddenHeader : List ℕ) (outerCode hiddenCode hostSize : ℕ)
+      → FromHeaders outerHeader hiddenHeader outerCode hiddenCode hostSize
   -- the boundary for C and Rust
   pub told : TellsNumbers
   pub zero : ReturnsZero
   pub ordered : (host kind magic version program start size candidate protected first end lock : ℕ)
       → OrdersNumbers host kind magic version program start size candidate protected first end lock
   pub stored : (before : List ℕ) → StoresAnswers before
-  pub begun : (outerLayout innerLayout : Layout) → BeginsRuns outerLayout innerLayout
+  pub begun : (outerLayout hiddenLayout : Layout) → BeginsRuns outerLayout hiddenLayout
   pub carried : (numbers : Numbers) → CarriesRuns numbers
   -- the map program
   pub input : ReadsInput

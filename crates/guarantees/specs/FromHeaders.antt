@@ -22,24 +22,24 @@ pub record HasArea (hostSize : ℕ) (h : List ℕ) (layout : Layout) : Type 0 wh
   pub size : layout .«data_size» ≡ fieldsAt h .«data_size»
 
 -- a header at a standard volume's location, and one at a hidden volume's whose data area lies in the first's
-pub record HeadersNest (outerHeader innerHeader : List ℕ) (outerCode innerCode : ℕ) : Type 0 where
-  pub standardCode : kindOf outerCode ≡ 0
-  pub hiddenCode : kindOf innerCode ≡ 1
-  pub starts : fieldsAt outerHeader .«data_start» ≤ fieldsAt innerHeader .«data_start»
-  pub ends : fieldsAt innerHeader .«data_start» + fieldsAt innerHeader .«data_size»
+pub record HeadersNest (outerHeader hiddenHeader : List ℕ) (outerCode hiddenCode : ℕ) : Type 0 where
+  pub firstStandard : kindOf outerCode ≡ 0
+  pub secondHidden : kindOf hiddenCode ≡ 1
+  pub starts : fieldsAt outerHeader .«data_start» ≤ fieldsAt hiddenHeader .«data_start»
+  pub ends : fieldsAt hiddenHeader .«data_start» + fieldsAt hiddenHeader .«data_size»
       ≤ fieldsAt outerHeader .«data_start» + fieldsAt outerHeader .«data_size»
 
 -- the two views, and what holds of them
-pub record ViewsHold (outerHeader innerHeader : List ℕ) (hostSize : ℕ) (outerLayout innerLayout : Layout) : Type 0 where
+pub record ViewsHold (outerHeader hiddenHeader : List ℕ) (hostSize : ℕ) (outerLayout hiddenLayout : Layout) : Type 0 where
   pub outerArea : HasArea hostSize outerHeader outerLayout
-  pub innerArea : HasArea hostSize innerHeader innerLayout
-  pub outerView : protectedView outerLayout innerLayout ≡ Made (protecting outerLayout innerLayout false)
-  pub innerView : plainView innerLayout ≡ Made (plain innerLayout false)
+  pub hiddenArea : HasArea hostSize hiddenHeader hiddenLayout
+  pub outerView : protectedView outerLayout hiddenLayout ≡ Made (protecting outerLayout hiddenLayout false)
+  pub hiddenView : plainView hiddenLayout ≡ Made (plain hiddenLayout false)
   pub demand3 : (outerLocked hiddenLocked : Bool) (image : List ℕ) (xs ys : List Call)
-      → Interleaved outerLayout innerLayout outerLocked hiddenLocked image xs ys
+      → Interleaved outerLayout hiddenLayout outerLocked hiddenLocked image xs ys
 
 -- the claim, for any bytes
-pub record FromHeaders (outerHeader innerHeader : List ℕ) (outerCode innerCode hostSize : ℕ) : Type 0 where
-  pub holds : (outerLayout innerLayout : Layout) → opened outerHeader (outerCode ∷ []) hostSize ≡ Accepted outerLayout
-      → opened innerHeader (innerCode ∷ []) hostSize ≡ Accepted innerLayout → HeadersNest outerHeader innerHeader outerCode innerCode
-      → ViewsHold outerHeader innerHeader hostSize outerLayout innerLayout
+pub record FromHeaders (outerHeader hiddenHeader : List ℕ) (outerCode hiddenCode hostSize : ℕ) : Type 0 where
+  pub holds : (outerLayout hiddenLayout : Layout) → opened outerHeader (outerCode ∷ []) hostSize ≡ Accepted outerLayout
+      → opened hiddenHeader (hiddenCode ∷ []) hostSize ≡ Accepted hiddenLayout → HeadersNest outerHeader hiddenHeader outerCode hiddenCode
+      → ViewsHold outerHeader hiddenHeader hostSize outerLayout hiddenLayout

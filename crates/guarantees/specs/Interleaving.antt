@@ -7,8 +7,9 @@ use mathlib.Core.Bool.{Bool, false, cond}
 use mathlib.Core.List.{List, [], _∷_, _++_}
 use lib.Dec.{eqb}
 use lib.ListN.{take, drop}
+use Rattle.answers.specs.Answers.{answerRefusal}
 use Rattle.layout.specs.declared.Layout.{Layout}
-use Rattle.view.specs.Access.{ReadPost, WritePost, answerNumber}
+use Rattle.view.specs.Access.{ReadPost, WritePost}
 use Rattle.view.specs.declared.Outcome.{Outcome}
 use Rattle.view.specs.declared.View.{View}
 use Rattle.guarantees.specs.ReferenceModel.{Side, outer, hidden, Call, Turn, Reply, Model, isProtected, hostsOf, final, replies}
@@ -38,22 +39,22 @@ put outer view image state = record { outerView = view; hiddenView = state .hidd
 put hidden view image state = record { outerView = state .outerView; hiddenView = view; image = image }
 
 -- the view of a side
-unfoldable pub viewOf : Side → State → View
-viewOf outer state = state .outerView
-viewOf hidden state = state .hiddenView
+unfoldable pub sideView : Side → State → View
+sideView outer state = state .outerView
+sideView hidden state = state .hiddenView
 
 -- what a caller sees of a call: its answer's number, and its buffer as the call left it
 abbrev pub seen : Outcome → List ℕ → Reply
-seen outcome buffer = record { answer = answerNumber (outcome .answer); buffer = buffer }
+seen outcome buffer = record { answer = answerRefusal (outcome .answer); buffer = buffer }
 
 -- one call that keeps its contract: its view is as the call before it on that side handed it back, the image as any call before it left it
 pub data Step : State → Turn → Reply → State → Type 0 where
   aRead : {state : State} (side : Side) (first count : ℕ) (buffer filled : List ℕ) (outcome : Outcome)
-      → ReadPost (viewOf side state) (state .image) first count buffer outcome filled
+      → ReadPost (sideView side state) (state .image) first count buffer outcome filled
       → Step state (turn side (record { kind = reads; first = first; count = count; buffer = buffer })) (seen outcome filled)
       (put side (outcome .view) (state .image) state)
   aWrite : {state : State} (side : Side) (first count : ℕ) (buffer written : List ℕ) (outcome : Outcome)
-      → WritePost (viewOf side state) (state .image) first count buffer outcome written
+      → WritePost (sideView side state) (state .image) first count buffer outcome written
       → Step state (turn side (record { kind = writes; first = first; count = count; buffer = buffer })) (seen outcome buffer)
       (put side (outcome .view) written state)
 
@@ -68,7 +69,7 @@ unfoldable pub pieceFor : ℕ → List ℕ → List ℕ → List ℕ → List �
 pieceFor host [] buffer before = before
 pieceFor host (covered ∷ hosts) buffer before = cond (eqb host covered) (take 512 buffer) (pieceFor host hosts (drop 512 buffer) before)
 
-module _ (outerLayout innerLayout : Layout) where
+module _ (outerLayout hiddenLayout : Layout) where
   -- a sector after a call: an accepted write that covers it replaces what was there
   unfoldable pub writtenBy : ℕ → Kind → List ℕ → List ℕ → ℕ → List ℕ → List ℕ
   writtenBy host reads hosts buffer answer before = before
@@ -80,7 +81,7 @@ module _ (outerLayout innerLayout : Layout) where
   contents host (call ∷ turns) [] before = before
   contents host (call ∷ turns) (answer ∷ answers) before =
       contents host turns answers
-      (writtenBy host (call .call .kind) (hostsOf outerLayout innerLayout call) (call .call .buffer) (answer .answer) before)
+      (writtenBy host (call .call .kind) (hostsOf outerLayout hiddenLayout call) (call .call .buffer) (answer .answer) before)
 
   -- the replies to one side's calls
   unfoldable pub sideReply : Side → Side → Reply → List Reply → List Reply
@@ -98,7 +99,7 @@ module _ (outerLayout innerLayout : Layout) where
   unfoldable pub unprotectedPieces : List ℕ → List ℕ → List (List ℕ)
   unprotectedPieces [] buffer = []
   unprotectedPieces (host ∷ hosts) buffer =
-      cond (isProtected innerLayout host) [] (take 512 buffer) ∷ unprotectedPieces hosts (drop 512 buffer)
+      cond (isProtected hiddenLayout host) [] (take 512 buffer) ∷ unprotectedPieces hosts (drop 512 buffer)
 
   -- what an outer call shows: its answer, and its buffer, of an accepted read but for the protected sectors
   unfoldable pub shownPieces : Kind → ℕ → List ℕ → List ℕ → List (List ℕ)
@@ -115,14 +116,14 @@ module _ (outerLayout innerLayout : Layout) where
   shown (call ∷ calls) (answer ∷ answers) =
       record {
         answer = answer .answer;
-        pieces = shownPieces (call .kind) (answer .answer) (hostsOf outerLayout innerLayout (turn outer call)) (answer .buffer);
+        pieces = shownPieces (call .kind) (answer .answer) (hostsOf outerLayout hiddenLayout (turn outer call)) (answer .buffer);
       }
       ∷ shown calls answers
 
   module _ (outerLocked hiddenLocked : Bool) (image : List ℕ) where
     -- the start: the protected view made from the two layouts, the plain one of the hidden layout, each lock open or closed
     unfoldable pub start : State
-    start = record { outerView = protecting outerLayout innerLayout outerLocked; hiddenView = plain innerLayout hiddenLocked; image = image }
+    start = record { outerView = protecting outerLayout hiddenLayout outerLocked; hiddenView = plain hiddenLayout hiddenLocked; image = image }
 
     -- the reference model's start
     unfoldable pub modelStart : Model
@@ -130,10 +131,10 @@ module _ (outerLayout innerLayout : Layout) where
 
     -- a run is the reference model's: replies, image and locks; layouts and ranges are as they began
     pub record Agrees (turns : List Turn) (answers : List Reply) (last : State) : Type 0 where
-      pub sameReplies : answers ≡ replies outerLayout innerLayout turns modelStart
-      pub sameImage : last .image ≡ final outerLayout innerLayout turns modelStart .image
-      pub sameOuter : last .outerView ≡ protecting outerLayout innerLayout (final outerLayout innerLayout turns modelStart .outerLocked)
-      pub sameHidden : last .hiddenView ≡ plain innerLayout (final outerLayout innerLayout turns modelStart .hiddenLocked)
+      pub sameReplies : answers ≡ replies outerLayout hiddenLayout turns modelStart
+      pub sameImage : last .image ≡ final outerLayout hiddenLayout turns modelStart .image
+      pub sameOuter : last .outerView ≡ protecting outerLayout hiddenLayout (final outerLayout hiddenLayout turns modelStart .outerLocked)
+      pub sameHidden : last .hiddenView ≡ plain hiddenLayout (final outerLayout hiddenLayout turns modelStart .hiddenLocked)
 
     -- two runs agree, but for what outer reads give of protected sectors
     pub record Independent (xs : List Call) (turns others : List Turn) (answers otherAnswers : List Reply) (last otherLast : State) : Type 0 where
@@ -155,14 +156,14 @@ module _ (outerLayout innerLayout : Layout) where
       pub readsLeft : (before : List Turn) (call : Turn) (after : List Turn) (answers : List Reply) (answer : Reply) (middle next : State)
           → Interleaves xs ys (before ++ (call ∷ after)) → Run start before answers middle → Step middle call answer next
           → call .call .kind ≡ reads → answer .answer ≡ 0
-          → answer .buffer ≡ gather (λ host. contents host before answers (sectorAt host image)) (hostsOf outerLayout innerLayout call)
+          → answer .buffer ≡ gather (λ host. contents host before answers (sectorAt host image)) (hostsOf outerLayout hiddenLayout call)
       -- any two interleavings end alike, and give each list the same, but for what outer reads give of protected sectors
       pub independent : (turns others : List Turn) (answers otherAnswers : List Reply) (last otherLast : State)
           → Interleaves xs ys turns → Interleaves xs ys others → Run start turns answers last → Run start others otherAnswers otherLast
           → Independent xs turns others answers otherAnswers last otherLast
 
 -- demand 3: for any two sound layouts that nest
-pub record Demand3 (outerLayout innerLayout : Layout) : Type 0 where
-  pub holds : Sound outerLayout → Sound innerLayout → Nested outerLayout innerLayout
+pub record Demand3 (outerLayout hiddenLayout : Layout) : Type 0 where
+  pub holds : Sound outerLayout → Sound hiddenLayout → Nested outerLayout hiddenLayout
       → (outerLocked hiddenLocked : Bool) (image : List ℕ) (xs ys : List Call)
-      → Interleaved outerLayout innerLayout outerLocked hiddenLocked image xs ys
+      → Interleaved outerLayout hiddenLayout outerLocked hiddenLocked image xs ys

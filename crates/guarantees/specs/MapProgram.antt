@@ -11,7 +11,7 @@ use Rattle.layout.specs.declared.Layout.{Layout}
 use Rattle.layout.specs.declared.Opened.the-variants.{Refused}
 use Rattle.opening.specs.Opening.{opened}
 use Rattle.sector_map.specs.SectorMap.{sectorCount, hostSector}
-use Rattle.sector_map.specs.declared.Mapped.the-variants.{Number}
+use Rattle.answers.specs.declared.Numbered.the-variants.{Number}
 use Rattle.map_input.specs.MapInput.{openedInput}
 use Rattle.map_output.specs.Decimal.{decimal}
 use Rattle.map_output.specs.MapOutput.{layoutLines, refusalLine, Rendered}

@@ -9,7 +9,7 @@ use Rattle.layout.specs.declared.Layout.{Layout}
 use Rattle.layout.specs.declared.Opened.the-variants.{Accepted, Refused}
 use Rattle.opening.specs.Locations.{located}
 use Rattle.opening.specs.Opening.{opened}
-use Rattle.opening.specs.declared.Located.the-variants as locations
+use Rattle.answers.specs.declared.Numbered.the-variants as numbered
 use Rattle.guarantees.specs.Header.{bytesAt, IsHeader, Line, number, Keeps, FirstBroken, Tells}
 
 -- n candidates of 512 bytes and n codes, n from 1 to 64
@@ -91,9 +91,9 @@ pub record OpensExactlyWhen (candidates codes : List ℕ) (hostSize : ℕ) : Typ
 
 -- the header locations: 0, 65,536, S-131,072 and S-65,536; a code above 3 is refused 2, and then a host size 3
 pub record LocatesHeaders (hostSize : ℕ) : Type 0 where
-  pub main : HostSize hostSize → located 0 hostSize ≡ locations.At 0
-  pub hiddenMain : HostSize hostSize → located 1 hostSize ≡ locations.At 65536
-  pub backup : HostSize hostSize → located 2 hostSize ≡ locations.At (hostSize - 131072)
-  pub hiddenBackup : HostSize hostSize → located 3 hostSize ≡ locations.At (hostSize - 65536)
-  pub unknownCode : (code : ℕ) → 3 < code → located code hostSize ≡ locations.Refused 2
-  pub unknownSize : (code : ℕ) → code ≤ 3 → (HostSize hostSize → ⊥) → located code hostSize ≡ locations.Refused 3
+  pub main : HostSize hostSize → located 0 hostSize ≡ numbered.Number 0
+  pub hiddenMain : HostSize hostSize → located 1 hostSize ≡ numbered.Number 65536
+  pub backup : HostSize hostSize → located 2 hostSize ≡ numbered.Number (hostSize - 131072)
+  pub hiddenBackup : HostSize hostSize → located 3 hostSize ≡ numbered.Number (hostSize - 65536)
+  pub unknownCode : (code : ℕ) → 3 < code → located code hostSize ≡ numbered.Refused 2
+  pub unknownSize : (code : ℕ) → code ≤ 3 → (HostSize hostSize → ⊥) → located code hostSize ≡ numbered.Refused 3

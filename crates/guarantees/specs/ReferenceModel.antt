@@ -7,8 +7,8 @@ use mathlib.Core.List.{List, [], _∷_}
 use lib.ListN.{length}
 use Rattle.layout.specs.declared.Layout.{Layout}
 use Rattle.sector_map.specs.SectorMap.{userSector}
-use Rattle.sector_map.specs.declared.Mapped.{Mapped}
-use Rattle.sector_map.specs.declared.Mapped.the-variants.{Number, Refused}
+use Rattle.answers.specs.declared.Numbered.{Numbered}
+use Rattle.answers.specs.declared.Numbered.the-variants.{Number, Refused}
 use Rattle.guarantees.specs.Table.{Kind, tabled, covers, bufferLeft, imageLeft, lockLeft}
 
 -- the view that a call is on
@@ -51,38 +51,38 @@ lockAfter hidden outer number locked = locked
 lockAfter hidden hidden number locked = lockLeft number locked
 
 -- the map gives a number
-unfoldable pub isNumber : Mapped → Bool
+unfoldable pub isNumber : Numbered → Bool
 isNumber (Number number) = true
 isNumber (Refused number) = false
 
 -- a host sector is protected: it is one of the hidden volume's
 unfoldable pub isProtected : Layout → ℕ → Bool
-isProtected inner host = isNumber (userSector inner host)
+isProtected hiddenLayout host = isNumber (userSector hiddenLayout host)
 
 -- one of the host sectors is protected
 unfoldable pub anyProtected : Layout → List ℕ → Bool
-anyProtected inner [] = false
-anyProtected inner (host ∷ hosts) = isProtected inner host || anyProtected inner hosts
+anyProtected hiddenLayout [] = false
+anyProtected hiddenLayout (host ∷ hosts) = isProtected hiddenLayout host || anyProtected hiddenLayout hosts
 
-module _ (outerLayout innerLayout : Layout) where
+module _ (outerLayout hiddenLayout : Layout) where
   -- the layout of a side
-  unfoldable pub layoutOf : Side → Layout
-  layoutOf outer = outerLayout
-  layoutOf hidden = innerLayout
+  unfoldable pub sideLayout : Side → Layout
+  sideLayout outer = outerLayout
+  sideLayout hidden = hiddenLayout
 
   -- a call's host sectors
   unfoldable pub hostsOf : Turn → List ℕ
-  hostsOf turn = covers (layoutOf (turn .side)) (turn .call .first) (turn .call .count)
+  hostsOf turn = covers (sideLayout (turn .side)) (turn .call .first) (turn .call .count)
 
   -- a call touches its view's protected range: the outer view's is the hidden volume's data area, the hidden view has none
   unfoldable pub touched : Side → List ℕ → Bool
-  touched outer hosts = anyProtected innerLayout hosts
+  touched outer hosts = anyProtected hiddenLayout hosts
   touched hidden hosts = false
 
   -- the refusal number of a call, 0 for accepted
   unfoldable pub judged : Turn → Model → ℕ
   judged turn model =
-      tabled (turn .call .kind) (layoutOf (turn .side)) (lockOf (turn .side) model) (touched (turn .side) (hostsOf turn))
+      tabled (turn .call .kind) (sideLayout (turn .side)) (lockOf (turn .side) model) (touched (turn .side) (hostsOf turn))
       (length (model .image)) (turn .call .first) (turn .call .count) (length (turn .call .buffer))
 
   -- the reply to a call

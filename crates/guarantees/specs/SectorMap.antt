@@ -10,7 +10,7 @@ use Rattle.layout.specs.declared.Layout.{Layout}
 use Rattle.layout.specs.declared.Opened.the-variants.{Accepted}
 use Rattle.opening.specs.Opening.{opened}
 use Rattle.sector_map.specs.SectorMap.{sectorCount, hostSector, userSector, tweakNumber, tweakOf}
-use Rattle.sector_map.specs.declared.Mapped.the-variants.{Number, Refused}
+use Rattle.answers.specs.declared.Numbered.the-variants.{Number, Refused}
 use Rattle.guarantees.specs.Header.{KnownKind, DataArea}
 use Rattle.guarantees.specs.Opening.{HostSize}
 

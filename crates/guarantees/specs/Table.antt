@@ -7,8 +7,8 @@ use lib.Dec.{leb, eqb}
 use lib.ListN.{length, take, drop}
 use Rattle.layout.specs.declared.Layout.{Layout}
 use Rattle.sector_map.specs.SectorMap.{hostSector}
-use Rattle.sector_map.specs.declared.Mapped.{Mapped}
-use Rattle.sector_map.specs.declared.Mapped.the-variants.{Number, Refused}
+use Rattle.answers.specs.declared.Numbered.{Numbered}
+use Rattle.answers.specs.declared.Numbered.the-variants.{Number, Refused}
 
 -- what a call does
 pub data Kind : Type 0 where
@@ -31,7 +31,7 @@ tabled kind layout locked touch imageSize first count bufferSize =
     (check 15 (eqb bufferSize (count * 512)) (check 16 (leb (first + count) (layout .«data_size» / 512)) (later kind locked touch))))
 
 -- a host sector that the map gives, before others
-unfoldable pub withHost : Mapped → List ℕ → List ℕ
+unfoldable pub withHost : Numbered → List ℕ → List ℕ
 withHost (Number host) hosts = host ∷ hosts
 withHost (Refused number) hosts = hosts
 

@@ -18,8 +18,8 @@ plain layout locked = record { layout = layout; protection = Unprotected; locked
 
 -- an outer volume's view that protects a hidden one's data area, from its first byte to the byte past its end
 abbrev pub protecting : Layout → Layout → Bool → View
-protecting outer inner locked =
-    record { layout = outer; protection = Protected (inner .«data_start») (inner .«data_start» + inner .«data_size»); locked = locked }
+protecting outer hiddenLayout locked =
+    record { layout = outer; protection = Protected (hiddenLayout .«data_start») (hiddenLayout .«data_start» + hiddenLayout .«data_size»); locked = locked }
 
 -- bytes that may be protected: of a standard volume's data area, on sector boundaries, and at least one sector
 pub record ProtectedRange (layout : Layout) (first end : ℕ) : Type 0 where
@@ -41,22 +41,22 @@ pub record SoundView (view : View) : Type 0 where
   pub rangeSound : SoundRange (view .layout) (view .protection)
 
 -- two layouts nest: a standard volume, and a hidden one on the same host whose data area lies in the first's
-pub record Nested (outer inner : Layout) : Type 0 where
-  pub standardOuter : outer .kind ≡ standard
-  pub hiddenInner : inner .kind ≡ hidden
-  pub sameHost : outer .«host_size» ≡ inner .«host_size»
-  pub starts : outer .«data_start» ≤ inner .«data_start»
-  pub ends : inner .«data_start» + inner .«data_size» ≤ outer .«data_start» + outer .«data_size»
+pub record Nested (outer hiddenLayout : Layout) : Type 0 where
+  pub firstStandard : outer .kind ≡ standard
+  pub secondHidden : hiddenLayout .kind ≡ hidden
+  pub sameHost : outer .«host_size» ≡ hiddenLayout .«host_size»
+  pub starts : outer .«data_start» ≤ hiddenLayout .«data_start»
+  pub ends : hiddenLayout .«data_start» + hiddenLayout .«data_size» ≤ outer .«data_start» + outer .«data_size»
 
 -- the claim, for any two layouts
-pub record MakesViews (outer inner : Layout) : Type 0 where
+pub record MakesViews (outer hiddenLayout : Layout) : Type 0 where
   -- a plain view, its lock open, from any sound layout, else 11
   pub plainMade : Sound outer → plainView outer ≡ Made (plain outer false)
   pub plainUnsound : (Sound outer → ⊥) → plainView outer ≡ Refused 11
   -- a protected view, its lock open: 11 if either is unsound, then 12 unless they nest
-  pub guardedMade : Sound outer → Sound inner → Nested outer inner → protectedView outer inner ≡ Made (protecting outer inner false)
-  pub guardedUnsound : (Sound outer × Sound inner → ⊥) → protectedView outer inner ≡ Refused 11
-  pub guardedApart : Sound outer → Sound inner → (Nested outer inner → ⊥) → protectedView outer inner ≡ Refused 12
+  pub guardedMade : Sound outer → Sound hiddenLayout → Nested outer hiddenLayout → protectedView outer hiddenLayout ≡ Made (protecting outer hiddenLayout false)
+  pub guardedUnsound : (Sound outer × Sound hiddenLayout → ⊥) → protectedView outer hiddenLayout ≡ Refused 11
+  pub guardedApart : Sound outer → Sound hiddenLayout → (Nested outer hiddenLayout → ⊥) → protectedView outer hiddenLayout ≡ Refused 12
   -- what comes out is sound, whatever its lock later
   pub plainSound : (locked : Bool) → Sound outer → SoundView (plain outer locked)
-  pub guardedSound : (locked : Bool) → Sound outer → Sound inner → Nested outer inner → SoundView (protecting outer inner locked)
+  pub guardedSound : (locked : Bool) → Sound outer → Sound hiddenLayout → Nested outer hiddenLayout → SoundView (protecting outer hiddenLayout locked)

@@ -10,8 +10,8 @@ use Rattle.header.specs.Header.{trueMagic}
 use Rattle.layout.specs.declared.Layout.{Layout}
 use Rattle.opening.specs.Opening.{opened}
 use Rattle.sector_map.specs.SectorMap.{hostSector, userSector, tweakOf}
-use Rattle.sector_map.specs.declared.Mapped.{Mapped}
-use Rattle.sector_map.specs.declared.Mapped.the-variants as mapped
+use Rattle.answers.specs.declared.Numbered.{Numbered}
+use Rattle.answers.specs.declared.Numbered.the-variants as mapped
 use Rattle.sector_map.specs.declared.Tweak.{Tweak}
 use Rattle.view.specs.Access.{readNumber, writeNumber, after}
 use Rattle.view.specs.Views.{plainView, protectedView}
@@ -75,7 +75,7 @@ volumeN =
     }
 
 -- what a case shows of the map: the refusal number, or 0 and the sector or tweak number
-unfoldable pub mappedShown : Mapped → List ℕ
+unfoldable pub mappedShown : Numbered → List ℕ
 mappedShown (mapped.Number number) = 0 ∷ number ∷ []
 mappedShown (mapped.Refused number) = number ∷ []
 

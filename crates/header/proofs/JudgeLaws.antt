@@ -8,7 +8,7 @@ use mathlib.Core.List.{List}
 use lib.Dec.{eqb}
 use Rattle.layout.specs.declared.Layout.{Layout}
 use Rattle.layout.specs.declared.Opened.the-variants.{Accepted, Refused}
-use Rattle.header.specs.Header.{magicOf, fieldsOf, isHeader, firstBroken, layoutOf, answer, judge}
+use Rattle.header.specs.Header.{magicOf, fieldsOf, isHeader, firstBroken, acceptedLayout, answer, judge}
 
 -- a refusal is no acceptance
 pub refused-accepted : (number : ℕ) (layout : Layout) → Refused number ≡ Accepted layout → ⊥
@@ -24,12 +24,12 @@ chosen true false l k number other e = absurd (refused-accepted number k e)
 chosen false b l k number other e = absurd (refused-accepted other k e)
 
 pub judge-accepted : (kind hostSize index : ℕ) (h : List ℕ) (layout : Layout) → judge kind hostSize index h ≡ Accepted layout
-    → layoutOf kind hostSize index (magicOf h) (fieldsOf h) ≡ layout
+    → acceptedLayout kind hostSize index (magicOf h) (fieldsOf h) ≡ layout
 unfolding judge answer
 judge-accepted kind hostSize index h layout e =
     chosen (isHeader h) (eqb (firstBroken kind hostSize (magicOf h) (fieldsOf h) h) 0)
-    (layoutOf kind hostSize index (magicOf h) (fieldsOf h)) layout (firstBroken kind hostSize (magicOf h) (fieldsOf h) h) 4 e
+    (acceptedLayout kind hostSize index (magicOf h) (fieldsOf h)) layout (firstBroken kind hostSize (magicOf h) (fieldsOf h) h) 4 e
 
 pub judge-candidate : (kind hostSize index : ℕ) (h : List ℕ) (layout : Layout) → judge kind hostSize index h ≡ Accepted layout → index ≡ layout .candidate
-unfolding layoutOf
+unfolding acceptedLayout
 judge-candidate kind hostSize index h layout e = ap (λ (l : Layout). l .candidate) (judge-accepted kind hostSize index h layout e)

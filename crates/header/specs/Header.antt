@@ -7,7 +7,7 @@ use lib.Dec.{leb, eqb}
 use lib.ListN.{length}
 use Rattle.numbers.specs.Numbers.{bigEndian, littleEndian}
 use Rattle.crc32.specs.Crc32.{crc32}
-use Rattle.layout.specs.Answer.{line}
+use Rattle.answers.specs.Answers.{line}
 use Rattle.layout.specs.Rules.{standard, hidden, dataAreaRule}
 use Rattle.layout.specs.declared.Layout.{Layout}
 use Rattle.layout.specs.declared.Opened.{Opened}
@@ -95,8 +95,8 @@ firstBroken kind hostSize magic f h =
     (line 10 (areaRule kind hostSize (f .«data_start») (f .«data_size») (f .«encrypted_size»)) 0)))))
 
 -- what an accepted candidate tells: the layout, with the candidate's index
-unfoldable pub layoutOf : ℕ → ℕ → ℕ → ℕ → Fields → Layout
-layoutOf kind hostSize index magic f =
+unfoldable pub acceptedLayout : ℕ → ℕ → ℕ → ℕ → Fields → Layout
+acceptedLayout kind hostSize index magic f =
     record {
       «host_size» = hostSize;
       kind = kind;
@@ -116,5 +116,5 @@ answer number layout = cond (eqb number 0) (Accepted layout) (Refused number)
 unfoldable pub judge : ℕ → ℕ → ℕ → List ℕ → Opened
 judge kind hostSize index h =
     cond (isHeader h)
-    (answer (firstBroken kind hostSize (magicOf h) (fieldsOf h) h) (layoutOf kind hostSize index (magicOf h) (fieldsOf h)))
+    (answer (firstBroken kind hostSize (magicOf h) (fieldsOf h) h) (acceptedLayout kind hostSize index (magicOf h) (fieldsOf h)))
     (Refused 4)

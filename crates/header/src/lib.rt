@@ -7,7 +7,7 @@ ghost use Rattle.numbers.specs.Numbers.{bigEndian};
 ghost use Rattle.header.specs.Bytes.{part, sameBytes, allZero};
 ghost use Rattle.header.specs.Header.{magicOf, fieldsOf, checksumsMatch};
 ghost use Rattle.header.specs.Header.{versionRule, reservedRule, hiddenSizeRule, areaRule, firstBroken};
-ghost use Rattle.header.specs.Header.{layoutOf, judge as judgement};
+ghost use Rattle.header.specs.Header.{acceptedLayout, judge as judgement};
 use layout::Layout;
 use layout::Opened;
 
@@ -83,7 +83,7 @@ pub fn judge(candidate: &[u8], kind: u64, host_size: u64, index: u64) -> Opened
     if broken != 0 {
         return Opened::Refused(broken);
     }
-    Opened::Accepted(layout_of(fields, magic, kind, host_size, index))
+    Opened::Accepted(accepted_layout(fields, magic, kind, host_size, index))
 }
 
 fn magic_of(candidate: &[u8]) -> u64
@@ -249,8 +249,8 @@ fn keeps_area(fields: Fields, kind: u64, host_size: u64) -> bool
     layout::is_data_area(kind, host_size, fields.data_start, fields.data_size)
 }
 
-fn layout_of(fields: Fields, magic: u64, kind: u64, host_size: u64, index: u64) -> Layout
-    ensures { λ r. ⌜ r ≡ layoutOf kind «host_size» index magic fields ⌝ }
+fn accepted_layout(fields: Fields, magic: u64, kind: u64, host_size: u64, index: u64) -> Layout
+    ensures { λ r. ⌜ r ≡ acceptedLayout kind «host_size» index magic fields ⌝ }
 {
     Layout {
         host_size,

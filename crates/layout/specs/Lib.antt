@@ -1,3 +1,3 @@
-pub mod Answer
+pub mod Opened
 pub mod Rules
 pub mod Soundness

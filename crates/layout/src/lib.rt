@@ -1,7 +1,7 @@
 // Where a volume lies in its host: the layout that opening gives, and the rules that a host's size
 // and a data area keep. Assumes nothing; no function has a `requires`.
 ghost use mathlib.Core.Path.{_≡_};
-ghost use Rattle.layout.specs.Answer.{numberOf};
+ghost use Rattle.layout.specs.Opened.{openedRefusal};
 ghost use Rattle.layout.specs.Rules.{hostSizeRule, startRule, endRule, dataAreaRule};
 ghost use Rattle.layout.specs.Soundness.{sound};
 
@@ -41,7 +41,7 @@ pub enum Opened {
 
 // The refusal number of an answer, 0 where it is a layout.
 pub fn refusal(opened: Opened) -> u8
-    ensures { λ r. ⌜ r ≡ numberOf opened ⌝ }
+    ensures { λ r. ⌜ r ≡ openedRefusal opened ⌝ }
 {
     match opened {
         Opened::Accepted(_) => 0,

@@ -4,8 +4,8 @@
 // A case is a count of name bytes (1 byte), the eight numbers of a layout and a sector number (8
 // bytes each), all big-endian, and then the name. The sector number is asked for as a user sector
 // and as a host sector.
+use answers::Numbered;
 use layout::Layout;
-use sector_map::Mapped;
 use sector_map::Tweak;
 
 // Where the count and the numbers stand, and how far they go.
@@ -122,11 +122,11 @@ fn print_sound(sound: bool) {
     }
 }
 
-fn print_mapped(before: &[u8], mapped: Mapped) {
+fn print_mapped(before: &[u8], mapped: Numbered) {
     io::write_all(1, before);
     match mapped {
-        Mapped::Number(number) => print_number(b"", number),
-        Mapped::Refused(_) => print_number(b"refused ", sector_map::refusal(mapped) as u64),
+        Numbered::Number(number) => print_number(b"", number),
+        Numbered::Refused(_) => print_number(b"refused ", answers::numbered_refusal(mapped) as u64),
     }
 }
 

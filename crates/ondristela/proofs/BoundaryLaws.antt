@@ -10,12 +10,12 @@ use Rattle.layout.specs.declared.Layout.{Layout}
 use Rattle.view.specs.declared.Protection.{Protection}
 use Rattle.view.specs.declared.Protection.the-variants.{Unprotected, Protected}
 use Rattle.view.specs.declared.View.{View}
-use Rattle.ondristela.specs.Boundary.{layoutNumbers, layoutOf, protectionNumbers, viewNumbers}
+use Rattle.ondristela.specs.Boundary.{layoutNumbers, layoutFrom, protectionNumbers, viewNumbers}
 
 -- a layout comes back from its numbers, whatever stands behind them
-pub layout-of-numbers : (layout : Layout) (rest : List ℕ) → layoutOf (layoutNumbers layout ++ rest) ≡ layout
-unfolding layoutOf layoutNumbers
-layout-of-numbers layout rest = refl
+pub layout-from-numbers : (layout : Layout) (rest : List ℕ) → layoutFrom (layoutNumbers layout ++ rest) ≡ layout
+unfolding layoutFrom layoutNumbers
+layout-from-numbers layout rest = refl
 
 -- what is protected has three numbers
 protection-three : (protection : Protection) (rest : List ℕ)

@@ -10,10 +10,8 @@ use Rattle.layout.specs.declared.Layout.{Layout}
 use Rattle.layout.specs.declared.Opened.{Opened}
 use Rattle.layout.specs.declared.Opened.the-variants as opened
 use Rattle.opening.specs.Opening.{keysOffset, keysSize}
-use Rattle.opening.specs.declared.Located.{Located}
-use Rattle.opening.specs.declared.Located.the-variants as located
-use Rattle.sector_map.specs.declared.Mapped.{Mapped}
-use Rattle.sector_map.specs.declared.Mapped.the-variants as mapped
+use Rattle.answers.specs.declared.Numbered.{Numbered}
+use Rattle.answers.specs.declared.Numbered.the-variants as numbered
 use Rattle.view.specs.Access.{readNumber, writeNumber, filledBy, writtenBy}
 use Rattle.view.specs.declared.Protection.{Protection}
 use Rattle.view.specs.declared.Protection.the-variants.{Unprotected, Protected}
@@ -32,8 +30,8 @@ abbrev pub numberAt : ℕ → List ℕ → ℕ
 numberAt i numbers = getD numbers i 0
 
 -- the layout that eight numbers tell
-unfoldable pub layoutOf : List ℕ → Layout
-layoutOf numbers =
+unfoldable pub layoutFrom : List ℕ → Layout
+layoutFrom numbers =
     record {
       «host_size» = numberAt 0 numbers;
       kind = numberAt 1 numbers;
@@ -59,18 +57,13 @@ unfoldable pub viewNumbers : View → List ℕ
 viewNumbers view = layoutNumbers (view .layout) ++ protectionNumbers (view .protection) ++ cond (view .locked) 1 0 ∷ []
 
 -- the view that twelve numbers tell: its lock is closed where the last is not 0
-unfoldable pub viewOf : List ℕ → View
-viewOf numbers =
+unfoldable pub viewFrom : List ℕ → View
+viewFrom numbers =
     record {
-      layout = layoutOf numbers;
+      layout = layoutFrom numbers;
       protection = protectionOf (numberAt 8 numbers) (numberAt 9 numbers) (numberAt 10 numbers);
       locked = not (eqb (numberAt 11 numbers) 0);
     }
-
--- what a location leaves: the header's offset, or the number as it was
-unfoldable pub locatedLeft : Located → List ℕ → List ℕ
-locatedLeft (located.At offset) before = offset ∷ []
-locatedLeft (located.Refused number) before = before
 
 -- what opening leaves: the layout's numbers, or the numbers as they were
 unfoldable pub openedLeft : Opened → List ℕ → List ℕ
@@ -82,15 +75,15 @@ unfoldable pub keysLeft : Opened → List ℕ → List ℕ
 keysLeft (opened.Accepted layout) before = keysOffset (opened.Accepted layout) ∷ keysSize (opened.Accepted layout) ∷ []
 keysLeft (opened.Refused number) before = before
 
--- what the sector map leaves: the sector's number, or the number as it was
-unfoldable pub mappedLeft : Mapped → List ℕ → List ℕ
-mappedLeft (mapped.Number number) before = number ∷ []
-mappedLeft (mapped.Refused number) before = before
+-- what a call that gives a number leaves: the number, or what was there
+unfoldable pub numberedLeft : Numbered → List ℕ → List ℕ
+numberedLeft (numbered.Number number) before = number ∷ []
+numberedLeft (numbered.Refused number) before = before
 
 -- what a tweak leaves: its block, or the bytes as they were
-unfoldable pub blockLeft : Mapped → List ℕ → List ℕ → List ℕ
-blockLeft (mapped.Number number) block before = block
-blockLeft (mapped.Refused number) block before = before
+unfoldable pub blockLeft : Numbered → List ℕ → List ℕ → List ℕ
+blockLeft (numbered.Number number) block before = block
+blockLeft (numbered.Refused number) block before = before
 
 -- what the making of a view leaves: the view's numbers, or the numbers as they were
 unfoldable pub viewedLeft : Viewed → List ℕ → List ℕ
@@ -103,11 +96,11 @@ viewLeft number before = cond (eqb number 18) (set before 11 1) before
 
 -- what a read leaves, for a view's numbers: the number that it returns, and the buffer
 pub record ReadCall (view image : List ℕ) (first count : ℕ) (buffer : List ℕ) (number : ℕ) (filled : List ℕ) : Type 0 where
-  pub returns : number ≡ readNumber (viewOf view) (length image) first count (length buffer)
-  pub fills : filled ≡ filledBy (viewOf view) image first count buffer
+  pub returns : number ≡ readNumber (viewFrom view) (length image) first count (length buffer)
+  pub fills : filled ≡ filledBy (viewFrom view) image first count buffer
 
 -- what a write leaves: the number that it returns, the image, and the view's numbers
 pub record WriteCall (view image : List ℕ) (first count : ℕ) (buffer : List ℕ) (number : ℕ) (written left : List ℕ) : Type 0 where
-  pub returns : number ≡ writeNumber (viewOf view) (length image) first count (length buffer)
-  pub writes : written ≡ writtenBy (viewOf view) image first count buffer
+  pub returns : number ≡ writeNumber (viewFrom view) (length image) first count (length buffer)
+  pub writes : written ≡ writtenBy (viewFrom view) image first count buffer
   pub locks : left ≡ viewLeft number view

@@ -6,18 +6,18 @@
 ghost use mathlib.Core.Path.{_≡_};
 ghost use Prim.Native.Nat.{_≤_};
 ghost use lib.ListN.{length};
+ghost use Rattle.answers.specs.Answers.{numberedRefusal};
 ghost use Rattle.crc32.specs.Crc32.{crc32};
-ghost use Rattle.layout.specs.Answer.{numberOf};
-ghost use Rattle.opening.specs.Locations.{located, locatedNumber};
+ghost use Rattle.layout.specs.Opened.{openedRefusal};
+ghost use Rattle.opening.specs.Locations.{located};
 ghost use Rattle.opening.specs.Opening.{opened, keysOffset};
-ghost use Rattle.sector_map.specs.SectorMap.{hostSector, userSector, tweakOf, mappedRefusal};
+ghost use Rattle.sector_map.specs.SectorMap.{hostSector, userSector, tweakOf};
 ghost use Rattle.view.specs.Views.{plainView, protectedView, viewedRefusal};
-ghost use Rattle.ondristela.specs.Boundary.{layoutNumbers, layoutOf, protectionNumbers, protectionOf, viewNumbers, viewOf};
-ghost use Rattle.ondristela.specs.Boundary.{locatedLeft, openedLeft, keysLeft, mappedLeft, blockLeft, viewedLeft, viewLeft, ReadCall, WriteCall};
+ghost use Rattle.ondristela.specs.Boundary.{layoutNumbers, layoutFrom, protectionNumbers, protectionOf, viewNumbers, viewFrom};
+ghost use Rattle.ondristela.specs.Boundary.{numberedLeft, openedLeft, keysLeft, blockLeft, viewedLeft, viewLeft, ReadCall, WriteCall};
+use answers::Numbered;
 use layout::Layout;
 use layout::Opened;
-use opening::Located;
-use sector_map::Mapped;
 use sector_map::Tweak;
 use view::Protection;
 use view::View;
@@ -26,10 +26,10 @@ use view::Viewed;
 // Where the header of a location code lies in a host of this size.
 #[no_mangle]
 pub extern "C" fn ondristela_location(code: u8, host_size: u64, offset: &mut [u64; 1]) -> u64
-    ensures { λ r. ⌜ r ≡ locatedNumber (located code «host_size») ⌝ }
-    ensures { λ _. ⌜ now (offset .exit) ≡ locatedLeft (located code «host_size») (now (offset .entry)) ⌝ }
+    ensures { λ r. ⌜ r ≡ numberedRefusal (located code «host_size») ⌝ }
+    ensures { λ _. ⌜ now (offset .exit) ≡ numberedLeft (located code «host_size») (now (offset .entry)) ⌝ }
 {
-    give_offset(opening::locate(code, host_size), offset)
+    give_number(opening::locate(code, host_size), offset)
 }
 
 // The layout of the first candidate that is accepted. candidates holds deciphered headers of 512
@@ -41,7 +41,7 @@ pub extern "C" fn ondristela_open(
     host_size: u64,
     layout: &mut [u64; 8],
 ) -> u64
-    ensures { λ r. ⌜ r ≡ numberOf (opened (now (candidates .entry)) (now (codes .entry)) «host_size») ⌝ }
+    ensures { λ r. ⌜ r ≡ openedRefusal (opened (now (candidates .entry)) (now (codes .entry)) «host_size») ⌝ }
     ensures { λ _. ⌜ now (layout .exit) ≡ openedLeft (opened (now (candidates .entry)) (now (codes .entry)) «host_size») (now (layout .entry)) ⌝ }
 {
     give_layout(opening::open(candidates, codes, host_size), layout)
@@ -55,7 +55,7 @@ pub extern "C" fn ondristela_keys(
     host_size: u64,
     range: &mut [u64; 2],
 ) -> u64
-    ensures { λ r. ⌜ r ≡ numberOf (opened (now (candidates .entry)) (now (codes .entry)) «host_size») ⌝ }
+    ensures { λ r. ⌜ r ≡ openedRefusal (opened (now (candidates .entry)) (now (codes .entry)) «host_size») ⌝ }
     ensures { λ _. ⌜ now (range .exit) ≡ keysLeft (opened (now (candidates .entry)) (now (codes .entry)) «host_size») (now (range .entry)) ⌝ }
 {
     give_keys(opening::open(candidates, codes, host_size), range)
@@ -64,37 +64,37 @@ pub extern "C" fn ondristela_keys(
 // The host sector that holds a user sector.
 #[no_mangle]
 pub extern "C" fn ondristela_host_sector(layout: &[u64; 8], user: u64, host: &mut [u64; 1]) -> u64
-    ensures { λ r. ⌜ r ≡ mappedRefusal (hostSector (layoutOf (now (layout .entry))) user) ⌝ }
-    ensures { λ _. ⌜ now (host .exit) ≡ mappedLeft (hostSector (layoutOf (now (layout .entry))) user) (now (host .entry)) ⌝ }
+    ensures { λ r. ⌜ r ≡ numberedRefusal (hostSector (layoutFrom (now (layout .entry))) user) ⌝ }
+    ensures { λ _. ⌜ now (host .exit) ≡ numberedLeft (hostSector (layoutFrom (now (layout .entry))) user) (now (host .entry)) ⌝ }
 {
-    give_number(sector_map::host_sector(layout_of(layout), user), host)
+    give_number(sector_map::host_sector(layout_from(layout), user), host)
 }
 
 // The user sector that a host sector holds.
 #[no_mangle]
 pub extern "C" fn ondristela_user_sector(layout: &[u64; 8], host: u64, user: &mut [u64; 1]) -> u64
-    ensures { λ r. ⌜ r ≡ mappedRefusal (userSector (layoutOf (now (layout .entry))) host) ⌝ }
-    ensures { λ _. ⌜ now (user .exit) ≡ mappedLeft (userSector (layoutOf (now (layout .entry))) host) (now (user .entry)) ⌝ }
+    ensures { λ r. ⌜ r ≡ numberedRefusal (userSector (layoutFrom (now (layout .entry))) host) ⌝ }
+    ensures { λ _. ⌜ now (user .exit) ≡ numberedLeft (userSector (layoutFrom (now (layout .entry))) host) (now (user .entry)) ⌝ }
 {
-    give_number(sector_map::user_sector(layout_of(layout), host), user)
+    give_number(sector_map::user_sector(layout_from(layout), host), user)
 }
 
 // The tweak block of a user sector.
 #[no_mangle]
 pub extern "C" fn ondristela_tweak(layout: &[u64; 8], user: u64, block: &mut [u8; 16]) -> u64
-    ensures { λ r. ⌜ r ≡ mappedRefusal (tweakOf (layoutOf (now (layout .entry))) user .number) ⌝ }
-    ensures { λ _. ⌜ now (block .exit) ≡ blockLeft (tweakOf (layoutOf (now (layout .entry))) user .number) (tweakOf (layoutOf (now (layout .entry))) user .block) (now (block .entry)) ⌝ }
+    ensures { λ r. ⌜ r ≡ numberedRefusal (tweakOf (layoutFrom (now (layout .entry))) user .number) ⌝ }
+    ensures { λ _. ⌜ now (block .exit) ≡ blockLeft (tweakOf (layoutFrom (now (layout .entry))) user .number) (tweakOf (layoutFrom (now (layout .entry))) user .block) (now (block .entry)) ⌝ }
 {
-    give_block(sector_map::tweak_block(layout_of(layout), user), block)
+    give_block(sector_map::tweak_block(layout_from(layout), user), block)
 }
 
 // A view of a volume alone, its lock open.
 #[no_mangle]
 pub extern "C" fn ondristela_view_plain(layout: &[u64; 8], view: &mut [u64; 12]) -> u64
-    ensures { λ r. ⌜ r ≡ viewedRefusal (plainView (layoutOf (now (layout .entry)))) ⌝ }
-    ensures { λ _. ⌜ now (view .exit) ≡ viewedLeft (plainView (layoutOf (now (layout .entry)))) (now (view .entry)) ⌝ }
+    ensures { λ r. ⌜ r ≡ viewedRefusal (plainView (layoutFrom (now (layout .entry)))) ⌝ }
+    ensures { λ _. ⌜ now (view .exit) ≡ viewedLeft (plainView (layoutFrom (now (layout .entry)))) (now (view .entry)) ⌝ }
 {
-    give_view(view::plain(layout_of(layout)), view)
+    give_view(view::plain(layout_from(layout)), view)
 }
 
 // A view of an outer volume whose writes may not touch a hidden volume's data area, its lock open.
@@ -104,10 +104,13 @@ pub extern "C" fn ondristela_view_protected(
     hidden: &[u64; 8],
     view: &mut [u64; 12],
 ) -> u64
-    ensures { λ r. ⌜ r ≡ viewedRefusal (protectedView (layoutOf (now (outer .entry))) (layoutOf (now (hidden .entry)))) ⌝ }
-    ensures { λ _. ⌜ now (view .exit) ≡ viewedLeft (protectedView (layoutOf (now (outer .entry))) (layoutOf (now (hidden .entry)))) (now (view .entry)) ⌝ }
+    ensures { λ r. ⌜ r ≡ viewedRefusal (protectedView (layoutFrom (now (outer .entry))) (layoutFrom (now (hidden .entry)))) ⌝ }
+    ensures { λ _. ⌜ now (view .exit) ≡ viewedLeft (protectedView (layoutFrom (now (outer .entry))) (layoutFrom (now (hidden .entry)))) (now (view .entry)) ⌝ }
 {
-    give_view(view::protected(layout_of(outer), layout_of(hidden)), view)
+    give_view(
+        view::protected(layout_from(outer), layout_from(hidden)),
+        view,
+    )
 }
 
 // Copies count sectors, from user sector first on, out of the image and fills the buffer with them.
@@ -121,10 +124,10 @@ pub extern "C" fn ondristela_read(
 ) -> u64
     ensures { λ r. ⌜ ReadCall (now (view .entry)) (now (image .entry)) first count (now (buffer .entry)) r (now (buffer .exit)) ⌝ }
 {
-    let told = view_of(view);
+    let told = view_from(view);
     let outcome = told.read(image, first, count, buffer);
     let answer = outcome.answer;
-    view::answer_refusal(answer) as u64
+    answers::refusal(answer) as u64
 }
 
 // Copies the buffer into the image's sectors, from user sector first on. 18 closes the view's lock.
@@ -138,10 +141,10 @@ pub extern "C" fn ondristela_write(
 ) -> u64
     ensures { λ r. ⌜ WriteCall (now (view .entry)) (now (image .entry)) first count (now (buffer .entry)) r (now (image .exit)) (now (view .exit)) ⌝ }
 {
-    let told = view_of(view);
+    let told = view_from(view);
     let outcome = told.write(image, first, count, buffer);
     let answer = outcome.answer;
-    lock_after(view::answer_refusal(answer), view)
+    lock_after(answers::refusal(answer), view)
 }
 
 // CRC-32 of ITU-T V.42.
@@ -154,21 +157,8 @@ pub extern "C" fn ondristela_crc32(bytes: &[u8]) -> u32
 
 // The functions that give an answer return its refusal number, 0 for an acceptance, and store what an
 // acceptance holds.
-fn give_offset(answer: Located, offset: &mut [u64; 1]) -> u64
-    ensures { λ r. ⌜ r ≡ locatedNumber answer ⌝ }
-    ensures { λ _. ⌜ now (offset .exit) ≡ locatedLeft answer (now (offset .entry)) ⌝ }
-{
-    match answer {
-        Located::At(number) => {
-            *offset = [number];
-            0
-        }
-        Located::Refused(number) => number as u64,
-    }
-}
-
 fn give_layout(answer: Opened, numbers: &mut [u64; 8]) -> u64
-    ensures { λ r. ⌜ r ≡ numberOf answer ⌝ }
+    ensures { λ r. ⌜ r ≡ openedRefusal answer ⌝ }
     ensures { λ _. ⌜ now (numbers .exit) ≡ openedLeft answer (now (numbers .entry)) ⌝ }
 {
     match answer {
@@ -182,7 +172,7 @@ fn give_layout(answer: Opened, numbers: &mut [u64; 8]) -> u64
 
 fn give_keys(answer: Opened, range: &mut [u64; 2]) -> u64
     requires { ⌜ keysOffset answer ≤ 32768 ⌝ }
-    ensures { λ r. ⌜ r ≡ numberOf answer ⌝ }
+    ensures { λ r. ⌜ r ≡ openedRefusal answer ⌝ }
     ensures { λ _. ⌜ now (range .exit) ≡ keysLeft answer (now (range .entry)) ⌝ }
 {
     match answer {
@@ -195,31 +185,31 @@ fn give_keys(answer: Opened, range: &mut [u64; 2]) -> u64
     }
 }
 
-fn give_number(answer: Mapped, sector: &mut [u64; 1]) -> u64
-    ensures { λ r. ⌜ r ≡ mappedRefusal answer ⌝ }
-    ensures { λ _. ⌜ now (sector .exit) ≡ mappedLeft answer (now (sector .entry)) ⌝ }
+fn give_number(answer: Numbered, sector: &mut [u64; 1]) -> u64
+    ensures { λ r. ⌜ r ≡ numberedRefusal answer ⌝ }
+    ensures { λ _. ⌜ now (sector .exit) ≡ numberedLeft answer (now (sector .entry)) ⌝ }
 {
     match answer {
-        Mapped::Number(number) => {
+        Numbered::Number(number) => {
             *sector = [number];
             0
         }
-        Mapped::Refused(number) => number as u64,
+        Numbered::Refused(number) => number as u64,
     }
 }
 
 fn give_block(tweak: Tweak, block: &mut [u8; 16]) -> u64
-    ensures { λ r. ⌜ r ≡ mappedRefusal (tweak .number) ⌝ }
+    ensures { λ r. ⌜ r ≡ numberedRefusal (tweak .number) ⌝ }
     ensures { λ _. ⌜ now (block .exit) ≡ blockLeft (tweak .number) (tweak .block) (now (block .entry)) ⌝ }
 {
     let answer = tweak.number;
     let made = tweak.block;
     match answer {
-        Mapped::Number(_) => {
+        Numbered::Number(_) => {
             *block = made;
             0
         }
-        Mapped::Refused(number) => number as u64,
+        Numbered::Refused(number) => number as u64,
     }
 }
 
@@ -249,9 +239,9 @@ fn lock_after(number: u8, view: &mut [u64; 12]) -> u64
 }
 
 // The layout that the first eight numbers tell.
-fn layout_of(numbers: &[u64]) -> Layout
+fn layout_from(numbers: &[u64]) -> Layout
     requires { ⌜ 8 ≤ length (now numbers) ⌝ }
-    ensures { λ r. ⌜ r ≡ layoutOf (now (numbers .entry)) ⌝ }
+    ensures { λ r. ⌜ r ≡ layoutFrom (now (numbers .entry)) ⌝ }
 {
     Layout {
         host_size: numbers[0],
@@ -280,11 +270,11 @@ fn layout_numbers(layout: Layout) -> [u64; 8]
     ]
 }
 
-fn view_of(numbers: &[u64; 12]) -> View
-    ensures { λ r. ⌜ r ≡ viewOf (now (numbers .entry)) ⌝ }
+fn view_from(numbers: &[u64; 12]) -> View
+    ensures { λ r. ⌜ r ≡ viewFrom (now (numbers .entry)) ⌝ }
 {
     View {
-        layout: layout_of(numbers),
+        layout: layout_from(numbers),
         protection: protection_of(numbers[8], numbers[9], numbers[10]),
         locked: numbers[11] != 0,
     }

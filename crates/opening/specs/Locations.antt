@@ -8,8 +8,8 @@ use Rattle.layout.specs.Rules.{standard, hidden, hostSizeRule}
 use Rattle.opening.specs.declared.Origin.{Origin}
 use Rattle.opening.specs.declared.Origin.the-variants.{HostStart, HostEnd}
 use Rattle.opening.specs.declared.Location.{Location}
-use Rattle.opening.specs.declared.Located.{Located}
-use Rattle.opening.specs.declared.Located.the-variants.{At, Refused}
+use Rattle.answers.specs.declared.Numbered.{Numbered}
+use Rattle.answers.specs.declared.Numbered.the-variants.{Number, Refused}
 
 -- the four header locations, by location code: distance, the end of the host it counts from, and the kind of volume
 unfoldable pub locations : List Location
@@ -34,13 +34,8 @@ offsetFrom HostStart hostSize distance = distance
 offsetFrom HostEnd hostSize distance = hostSize - distance
 
 -- where the header of a code lies in a host, or the refusal: 2 for the code, then 3 for the host's size
-unfoldable pub located : ℕ → ℕ → Located
+unfoldable pub located : ℕ → ℕ → Numbered
 located code hostSize =
     cond (codeRule code)
-    (cond (hostSizeRule hostSize) (At (offsetFrom (locationOf code .origin) hostSize (locationOf code .distance))) (Refused 3))
+    (cond (hostSizeRule hostSize) (Number (offsetFrom (locationOf code .origin) hostSize (locationOf code .distance))) (Refused 3))
     (Refused 2)
-
--- the refusal number of a location; 0 for an acceptance is our own convention
-unfoldable pub locatedNumber : Located → ℕ
-locatedNumber (At offset) = 0
-locatedNumber (Refused number) = number

@@ -7,6 +7,7 @@ ghost use lib.ListN.{length};
 ghost use denote.Ref.{ptr};
 ghost use Rattle.opening.specs.Locations.{codeRule, located};
 ghost use Rattle.opening.specs.Opening.{lengthsRule, codesRule, judgements, firstRefusal, searchFrom, opened, KeyBytes};
+use answers::Numbered;
 use header::KEYS;
 use header::KEYS_SIZE;
 use header::SIZE;
@@ -55,30 +56,24 @@ const LOCATIONS: [Location; 4] = [
     },
 ];
 
-// A header's offset in the host, or a refusal number.
-pub enum Located {
-    At(u64),
-    Refused(u8),
-}
-
 // Where the header of a location code lies in a host of this size. Refuses 2 for a code above 3,
 // then 3 for the size.
-pub fn locate(code: u8, host_size: u64) -> Located
+pub fn locate(code: u8, host_size: u64) -> Numbered
     ensures { λ r. ⌜ r ≡ located code «host_size» ⌝ }
 {
     if MAX_CODE < code {
-        return Located::Refused(2);
+        return Numbered::Refused(2);
     }
     if !layout::is_host_size(host_size) {
-        return Located::Refused(3);
+        return Numbered::Refused(3);
     }
     let locations = LOCATIONS;
     let index = code as usize;
     let entry = locations[index];
     let origin = entry.origin;
     match origin {
-        Origin::HostStart => Located::At(entry.distance),
-        Origin::HostEnd => Located::At(host_size - entry.distance),
+        Origin::HostStart => Numbered::Number(entry.distance),
+        Origin::HostEnd => Numbered::Number(host_size - entry.distance),
     }
 }
 

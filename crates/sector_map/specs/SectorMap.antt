@@ -9,8 +9,8 @@ use Rattle.numbers.specs.Numbers.{littleEndianBytes}
 use Rattle.layout.specs.Rules.{sectorBytes}
 use Rattle.layout.specs.Soundness.{sound}
 use Rattle.layout.specs.declared.Layout.{Layout}
-use Rattle.sector_map.specs.declared.Mapped.{Mapped}
-use Rattle.sector_map.specs.declared.Mapped.the-variants.{Number, Refused}
+use Rattle.answers.specs.declared.Numbered.{Numbered}
+use Rattle.answers.specs.declared.Numbered.the-variants.{Number, Refused}
 use Rattle.sector_map.specs.declared.Tweak.{Tweak}
 
 -- how many sectors a volume has: V/512
@@ -22,35 +22,30 @@ unfoldable pub firstSector : Layout → ℕ
 firstSector layout = layout .«data_start» / sectorBytes
 
 -- the count of sectors, of a sound layout
-unfoldable pub sectorCount : Layout → Mapped
+unfoldable pub sectorCount : Layout → Numbered
 sectorCount layout = cond (sound layout) (Number (sectors layout)) (Refused 11)
 
 -- the host sector of a user sector u below V/512: O/512+u
-unfoldable pub hostSector : Layout → ℕ → Mapped
+unfoldable pub hostSector : Layout → ℕ → Numbered
 hostSector layout user =
     cond (sound layout) (cond (ltb user (sectors layout)) (Number (firstSector layout + user)) (Refused 16)) (Refused 11)
 
 -- the way back: the user sector that a host sector holds, if the data area has it
-unfoldable pub userSector : Layout → ℕ → Mapped
+unfoldable pub userSector : Layout → ℕ → Numbered
 userSector layout host =
     cond (sound layout)
     (cond (leb (firstSector layout) host && ltb host (firstSector layout + sectors layout)) (Number (host - firstSector layout)) (Refused 16))
     (Refused 11)
 
 -- the tweak number of a user sector: its host sector's, which counts from the first sector of the host in a hidden volume as well
-unfoldable pub tweakNumber : Layout → ℕ → Mapped
+unfoldable pub tweakNumber : Layout → ℕ → Numbered
 tweakNumber layout user = hostSector layout user
 
 -- the tweak block of a tweak number: its 8 bytes, the least significant first, and 8 zeros; on a refusal sixteen zeros
-unfoldable pub blockOf : Mapped → List ℕ
+unfoldable pub blockOf : Numbered → List ℕ
 blockOf (Number number) = littleEndianBytes 8 number ++ replicate 8 0
 blockOf (Refused number) = replicate 16 0
 
 -- the tweak of a user sector: its number, or the refusal, and its block beside it
 unfoldable pub tweakOf : Layout → ℕ → Tweak
 tweakOf layout user = record { number = tweakNumber layout user; block = blockOf (tweakNumber layout user) }
-
--- the refusal number of an answer; 0 for a number is our own convention
-unfoldable pub mappedRefusal : Mapped → ℕ
-mappedRefusal (Number number) = 0
-mappedRefusal (Refused number) = number

@@ -3,75 +3,60 @@
 // anybody may have made up, and refuses 11 where it is not sound, then 16 where a sector is not the
 // volume's. Assumes nothing; no function has a `requires`.
 ghost use mathlib.Core.Path.{_≡_};
-ghost use Rattle.sector_map.specs.SectorMap.{sectorCount, hostSector, userSector, tweakNumber, tweakOf, mappedRefusal};
+ghost use Rattle.sector_map.specs.SectorMap.{sectorCount, hostSector, userSector, tweakNumber, tweakOf};
+use answers::Numbered;
 use layout::Layout;
 use layout::SECTOR_SIZE;
 
-// A sector's or a tweak's number, or a refusal number.
-pub enum Mapped {
-    Number(u64),
-    Refused(u8),
-}
-
 // A tweak's number, or the refusal, and its block: sixteen zeros where it is refused.
 pub struct Tweak {
-    pub number: Mapped,
+    pub number: Numbered,
     pub block: [u8; 16],
 }
 
-// The refusal number of an answer, 0 where it is a number.
-pub fn refusal(mapped: Mapped) -> u8
-    ensures { λ r. ⌜ r ≡ mappedRefusal mapped ⌝ }
-{
-    match mapped {
-        Mapped::Number(_) => 0,
-        Mapped::Refused(number) => number,
-    }
-}
-
 // How many sectors a volume has.
-pub fn sector_count(layout: Layout) -> Mapped
+pub fn sector_count(layout: Layout) -> Numbered
     ensures { λ r. ⌜ r ≡ sectorCount layout ⌝ }
 {
     if !layout::is_sound(layout) {
-        return Mapped::Refused(11);
+        return Numbered::Refused(11);
     }
-    Mapped::Number(layout.data_size / SECTOR_SIZE)
+    Numbered::Number(layout.data_size / SECTOR_SIZE)
 }
 
 // The host sector that holds a user sector.
-pub fn host_sector(layout: Layout, user: u64) -> Mapped
+pub fn host_sector(layout: Layout, user: u64) -> Numbered
     ensures { λ r. ⌜ r ≡ hostSector layout user ⌝ }
 {
     if !layout::is_sound(layout) {
-        return Mapped::Refused(11);
+        return Numbered::Refused(11);
     }
     if layout.data_size / SECTOR_SIZE <= user {
-        return Mapped::Refused(16);
+        return Numbered::Refused(16);
     }
-    Mapped::Number(layout.data_start / SECTOR_SIZE + user)
+    Numbered::Number(layout.data_start / SECTOR_SIZE + user)
 }
 
 // The user sector that a host sector holds.
-pub fn user_sector(layout: Layout, host: u64) -> Mapped
+pub fn user_sector(layout: Layout, host: u64) -> Numbered
     ensures { λ r. ⌜ r ≡ userSector layout host ⌝ }
 {
     if !layout::is_sound(layout) {
-        return Mapped::Refused(11);
+        return Numbered::Refused(11);
     }
     let first = layout.data_start / SECTOR_SIZE;
     if host < first {
-        return Mapped::Refused(16);
+        return Numbered::Refused(16);
     }
     let user = host - first;
     if layout.data_size / SECTOR_SIZE <= user {
-        return Mapped::Refused(16);
+        return Numbered::Refused(16);
     }
-    Mapped::Number(user)
+    Numbered::Number(user)
 }
 
 // The tweak number of a user sector.
-pub fn tweak_number(layout: Layout, user: u64) -> Mapped
+pub fn tweak_number(layout: Layout, user: u64) -> Numbered
     ensures { λ r. ⌜ r ≡ tweakNumber layout user ⌝ }
 {
     host_sector(layout, user)
@@ -84,10 +69,10 @@ pub fn tweak_block(layout: Layout, user: u64) -> Tweak
     let mut block = [0u8; 16];
     let number = tweak_number(layout, user);
     match number {
-        Mapped::Number(value) => {
+        Numbered::Number(value) => {
             numbers::write_little_endian(value, &mut block);
             Tweak { number, block }
         }
-        Mapped::Refused(_) => Tweak { number, block },
+        Numbered::Refused(_) => Tweak { number, block },
     }
 }

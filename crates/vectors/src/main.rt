@@ -4,9 +4,9 @@
 // A case is a count of name bytes (1 byte), S (8), a count of codes (2) and a count of candidate
 // bytes (4), all big-endian, and then the name, the codes and the candidates.
 ghost use Prim.Native.Nat.{_≤_};
+use answers::Numbered;
 use layout::Layout;
 use layout::Opened;
-use opening::Located;
 
 // Where the counts and S stand.
 const NAME: usize = 0;
@@ -148,8 +148,8 @@ fn print_location(code: u8, host_size: u64) {
     print_number(b" of ", host_size);
     let located = opening::locate(code, host_size);
     match located {
-        Located::At(offset) => print_number(b": ", offset),
-        Located::Refused(number) => print_number(b": refused ", number as u64),
+        Numbered::Number(offset) => print_number(b": ", offset),
+        Numbered::Refused(number) => print_number(b": refused ", number as u64),
     }
     io::write_all(1, b"\n");
 }

@@ -6,14 +6,14 @@ use mathlib.Core.Path.{_≡_, refl, sym}
 use mathlib.Core.Bool.{Bool, true, false, not, cond}
 use lib.Dec.{leb, eqb}
 use borrow.Author.Tests.{leb-true, eqb-true, le-leb, eq-eqb}
-use Rattle.layout.specs.Answer.{line}
+use Rattle.answers.specs.Answers.{line, answerRefusal}
 use Rattle.layout.specs.Rules.{sectorBytes, maxHostSize}
 use Rattle.layout.specs.Soundness.{sound}
 use Rattle.layout.proofs.RuleLaws.{and-true-left, host-size-most, sound-host-size, sound-ends}
 use Rattle.sector_map.specs.SectorMap.{sectors}
-use Rattle.view.specs.declared.Answer.the-variants.{Accepted, Refused}
+use Rattle.answers.specs.declared.Answer.the-variants.{Accepted, Refused}
 use Rattle.view.specs.declared.View.{View}
-use Rattle.view.specs.Access.{maxCount, extentStart, checked, touches, readNumber, writeNumber, answered, answerNumber}
+use Rattle.view.specs.Access.{maxCount, extentStart, checked, touches, readNumber, writeNumber, answered}
 use Rattle.view.specs.Views.{protectionRule, soundView}
 
 -- a check that passes has no number
@@ -22,9 +22,11 @@ line-kept number true later e = (refl, e)
 line-kept number false later e = absurd (omega arith)
 
 -- what five checks say where one of them is not passed does not depend on the later ones
+abbrev five : Bool → Bool → Bool → Bool → Bool → ℕ → ℕ
+five a b c d e later = line 11 a (line 13 b (line 14 c (line 15 d (line 16 e later))))
+
 refused-alike : (a b c d e : Bool) (later : ℕ)
-    → (line 11 a (line 13 b (line 14 c (line 15 d (line 16 e 0)))) ≡ 0 → ⊥)
-    → line 11 a (line 13 b (line 14 c (line 15 d (line 16 e later)))) ≡ line 11 a (line 13 b (line 14 c (line 15 d (line 16 e 0))))
+    → (five a b c d e 0 ≡ 0 → ⊥) → five a b c d e later ≡ five a b c d e 0
 refused-alike false b c d e later h = refl
 refused-alike true false c d e later h = refl
 refused-alike true true false d e later h = refl
@@ -99,10 +101,10 @@ module _ (view : View) (imageSize first count bufferSize : ℕ) where
       (omega (arith, p .imageWhole, p .bufferWhole, p .inside), omega (arith, p .imageWhole))
 
 -- an answer's number is the one that it was made from
-pub answer-number-answered : (n : ℕ) → answerNumber (answered n) ≡ n
-unfolding answerNumber answered
+pub answer-number-answered : (n : ℕ) → answerRefusal (answered n) ≡ n
+unfolding answerRefusal answered
 answer-number-answered n = go (eqb n 0) refl
   where
-    go : (b : Bool) → eqb n 0 ≡ b → answerNumber (cond b Accepted (Refused n)) ≡ n
+    go : (b : Bool) → eqb n 0 ≡ b → answerRefusal (cond b Accepted (Refused n)) ≡ n
     go true e = sym (eqb-true n 0 e)
     go false e = refl

@@ -6,12 +6,12 @@ use mathlib.Core.Bool.{Bool, true, false, _&&_, not, cond}
 use mathlib.Core.List.{List, _++_}
 use lib.Dec.{leb, ltb, eqb}
 use lib.ListN.{length, take, drop}
-use Rattle.layout.specs.Answer.{line}
+use Rattle.answers.specs.Answers.{line}
 use Rattle.layout.specs.Rules.{sectorBytes}
 use Rattle.layout.specs.declared.Layout.{Layout}
 use Rattle.sector_map.specs.SectorMap.{sectors}
-use Rattle.view.specs.declared.Answer.{Answer}
-use Rattle.view.specs.declared.Answer.the-variants.{Accepted, Refused}
+use Rattle.answers.specs.declared.Answer.{Answer}
+use Rattle.answers.specs.declared.Answer.the-variants.{Accepted, Refused}
 use Rattle.view.specs.declared.Outcome.{Outcome}
 use Rattle.view.specs.declared.Protection.{Protection}
 use Rattle.view.specs.declared.Protection.the-variants.{Unprotected, Protected}
@@ -53,11 +53,6 @@ writeNumber view imageSize first count bufferSize =
 -- an answer by its number
 unfoldable pub answered : ℕ → Answer
 answered number = cond (eqb number 0) Accepted (Refused number)
-
--- the refusal number of an answer; 0 for an acceptance is our own convention
-unfoldable pub answerNumber : Answer → ℕ
-answerNumber Accepted = 0
-answerNumber (Refused number) = number
 
 -- a view after a write: 18 closes its lock, and nothing else changes it
 unfoldable pub after : View → ℕ → View

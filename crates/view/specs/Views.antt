@@ -32,8 +32,8 @@ plainOf layout locked = record { layout = layout; protection = Unprotected; lock
 
 -- an outer layout's view that protects a hidden layout's data area
 unfoldable pub protectedOf : Layout → Layout → Bool → View
-protectedOf outer inner locked =
-    record { layout = outer; protection = Protected (inner .«data_start») (areaEnd inner); locked = locked }
+protectedOf outer hiddenLayout locked =
+    record { layout = outer; protection = Protected (hiddenLayout .«data_start») (areaEnd hiddenLayout); locked = locked }
 
 -- a sound layout gives a plain view, its lock open
 unfoldable pub plainView : Layout → Viewed
@@ -41,14 +41,14 @@ plainView layout = cond (sound layout) (Made (plainOf layout false)) (Refused 11
 
 -- a pair nests: a standard layout and a hidden one with the same S, whose data area does not reach out of the first's
 unfoldable pub nests : Layout → Layout → Bool
-nests outer inner =
-    eqb (outer .kind) standard && eqb (inner .kind) hidden && eqb (outer .«host_size») (inner .«host_size»)
-    && leb (outer .«data_start») (inner .«data_start») && leb (areaEnd inner) (areaEnd outer)
+nests outer hiddenLayout =
+    eqb (outer .kind) standard && eqb (hiddenLayout .kind) hidden && eqb (outer .«host_size») (hiddenLayout .«host_size»)
+    && leb (outer .«data_start») (hiddenLayout .«data_start») && leb (areaEnd hiddenLayout) (areaEnd outer)
 
 -- two sound layouts that nest give a protected view, its lock open
 unfoldable pub protectedView : Layout → Layout → Viewed
-protectedView outer inner =
-    cond (sound outer && sound inner) (cond (nests outer inner) (Made (protectedOf outer inner false)) (Refused 12)) (Refused 11)
+protectedView outer hiddenLayout =
+    cond (sound outer && sound hiddenLayout) (cond (nests outer hiddenLayout) (Made (protectedOf outer hiddenLayout false)) (Refused 12)) (Refused 11)
 
 -- the refusal number of a view's making; 0 for a view is our own convention
 unfoldable pub viewedRefusal : Viewed → ℕ

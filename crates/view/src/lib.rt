@@ -8,8 +8,9 @@ ghost use Rattle.sector_map.specs.SectorMap.{sectors};
 ghost use mathlib.Core.List.{_++_};
 ghost use lib.Dec.{leb};
 ghost use lib.ListN.{length, drop};
-ghost use Rattle.view.specs.Access.{ReadPost, WritePost, readNumber, writeNumber, answerNumber, after, touches, extentStart};
+ghost use Rattle.view.specs.Access.{ReadPost, WritePost, readNumber, writeNumber, after, touches, extentStart};
 ghost use Rattle.view.specs.Views.{plainView, protectedView, soundView, protectionRule, nests, areaEnd, viewedRefusal};
+use answers::Answer;
 use layout::Layout;
 use layout::SECTOR_SIZE;
 
@@ -40,12 +41,6 @@ pub enum Viewed {
     Refused(u8),
 }
 
-// What a read or a write answers.
-pub enum Answer {
-    Accepted,
-    Refused(u8),
-}
-
 // The view handed back, and the answer.
 pub struct Outcome {
     pub view: View,
@@ -59,16 +54,6 @@ pub fn refusal(viewed: Viewed) -> u8
     match viewed {
         Viewed::Made(_) => 0,
         Viewed::Refused(number) => number,
-    }
-}
-
-// The refusal number of a read or a write, 0 where it is accepted.
-pub fn answer_refusal(answer: Answer) -> u8
-    ensures { λ r. ⌜ r ≡ answerNumber answer ⌝ }
-{
-    match answer {
-        Answer::Accepted => 0,
-        Answer::Refused(number) => number,
     }
 }
 
@@ -261,24 +246,24 @@ fn is_range(layout: Layout, start: u64, end: u64) -> bool
 }
 
 // Whether the second's data area lies inside the first's, and the two are of one host.
-fn do_nest(outer: Layout, inner: Layout) -> bool
+fn do_nest(outer: Layout, hidden: Layout) -> bool
     requires { ⌜ sound outer ≡ true ⌝ }
-    requires { ⌜ sound inner ≡ true ⌝ }
-    ensures { λ r. ⌜ r ≡ nests outer inner ⌝ }
+    requires { ⌜ sound hidden ≡ true ⌝ }
+    ensures { λ r. ⌜ r ≡ nests outer hidden ⌝ }
 {
     if outer.kind != layout::STANDARD {
         return false;
     }
-    if inner.kind != layout::HIDDEN {
+    if hidden.kind != layout::HIDDEN {
         return false;
     }
-    if outer.host_size != inner.host_size {
+    if outer.host_size != hidden.host_size {
         return false;
     }
-    if inner.data_start < outer.data_start {
+    if hidden.data_start < outer.data_start {
         return false;
     }
-    area_end(inner) <= area_end(outer)
+    area_end(hidden) <= area_end(outer)
 }
 
 // The byte past a data area.

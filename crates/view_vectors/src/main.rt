@@ -4,8 +4,8 @@
 // A case is a count of name bytes (1 byte), eighteen numbers (8 bytes each), all big-endian, and then
 // the name. The numbers are an operation, the slot of the view that it works on, and what it takes;
 // those that it does not take are not looked at.
+use answers::Answer;
 use layout::Layout;
-use view::Answer;
 use view::Outcome;
 use view::Protection;
 use view::View;

@@ -50,8 +50,8 @@ returns-4 c =
       ne-eqb _ _ (c .if4 .taken),
     )
 
-layout-of-requires : tie.Need-layout-of-requires
-layout-of-requires c κs = search needs
+accepted-layout-requires : tie.Need-accepted-layout-requires
+accepted-layout-requires c κs = search needs
 
 returns-5 : tie.Need-returns-5
 unfolding judge isHeader answer
@@ -64,7 +64,7 @@ returns-5 c =
       ← c .before .before .before .read-fields .ensures,
       ← c .before .before .first-broken .ensures,
       eq-eqb _ _ (c .before .if4 .left),
-      ← c .layout-of .ensures,
+      ← c .accepted-layout .ensures,
     )
 
 pub judge-spec : {M : Type 1} → statement M
@@ -79,5 +79,5 @@ judge-spec =
     read-fields-requires
     first-broken-requires
     returns-4
-    layout-of-requires
+    accepted-layout-requires
     returns-5)

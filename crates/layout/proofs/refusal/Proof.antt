@@ -2,7 +2,7 @@
 -- Assumes nothing.
 use mathlib.Core.Path.{refl}
 use borrow.Author.Needs.{needs}
-use Rattle.layout.specs.Answer.{numberOf}
+use Rattle.layout.specs.Opened.{openedRefusal}
 use Rattle.layout.proofs.refusal.Statement.{statement}
 use Rattle.layout.proofs.refusal.Tie as tie
 
@@ -13,11 +13,11 @@ enum-known-opened : tie.Need-enum-known-opened
 enum-known-opened c = search needs
 
 returns : tie.Need-returns
-unfolding numberOf
+unfolding openedRefusal
 returns c = rw (c .enum-told .given .1) refl
 
 returns-2 : tie.Need-returns-2
-unfolding numberOf
+unfolding openedRefusal
 returns-2 c = rw (c .before .opened .given .1) refl
 
 pub refusal-spec : {M : Type 1} → statement M

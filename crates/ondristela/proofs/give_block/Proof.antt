@@ -1,7 +1,7 @@
 -- `ondristela::give_block` meets its contract, by the cases of the answer.
 -- Assumes nothing.
 use mathlib.Core.Path.{refl}
-use Rattle.sector_map.specs.SectorMap.{mappedRefusal}
+use Rattle.answers.specs.Answers.{numberedRefusal}
 use Rattle.ondristela.specs.Boundary.{blockLeft}
 use borrow.Author.Needs.{needs}
 use Rattle.ondristela.proofs.give_block.Statement.{statement}
@@ -17,11 +17,11 @@ cast-result : tie.Need-cast-result
 cast-result c = search needs
 
 returns : tie.Need-returns
-unfolding mappedRefusal blockLeft
+unfolding numberedRefusal blockLeft
 returns c = rw (c .enum-told .given .1) (refl, refl)
 
 returns-2 : tie.Need-returns-2
-unfolding mappedRefusal blockLeft
+unfolding numberedRefusal blockLeft
 returns-2 c = rw (c .before .answer .given .1) (refl, refl)
 
 pub give-block-spec : {M : Type 1} → statement M

@@ -5,7 +5,7 @@ use mathlib.Core.Path.{refl}
 use mathlib.Core.Path.{subst}
 use Rattle.layout.specs.declared.Opened.{Opened}
 use native.Mathlib.Omega.{arith}
-use Rattle.layout.specs.Answer.{numberOf}
+use Rattle.layout.specs.Opened.{openedRefusal}
 use Rattle.opening.specs.Opening.{keysOffset, keysSize}
 use Rattle.ondristela.specs.Boundary.{keysLeft}
 use borrow.Author.Needs.{needs}
@@ -32,11 +32,11 @@ cast-result : tie.Need-cast-result
 cast-result c = search needs
 
 returns : tie.Need-returns
-unfolding numberOf keysOffset keysSize keysLeft
+unfolding openedRefusal keysOffset keysSize keysLeft
 returns c = rw (c .before .before .before .answer .given .1) (refl, refl)
 
 returns-2 : tie.Need-returns-2
-unfolding numberOf keysOffset keysSize keysLeft
+unfolding openedRefusal keysOffset keysSize keysLeft
 returns-2 c = rw (c .before .answer2 .given .1) (refl, refl)
 
 pub give-keys-spec : {M : Type 1} → statement M

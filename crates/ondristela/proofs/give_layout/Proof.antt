@@ -1,7 +1,7 @@
 -- `ondristela::give_layout` meets its contract, by the cases of the answer.
 -- Assumes nothing.
 use mathlib.Core.Path.{refl}
-use Rattle.layout.specs.Answer.{numberOf}
+use Rattle.layout.specs.Opened.{openedRefusal}
 use Rattle.ondristela.specs.Boundary.{openedLeft}
 use borrow.Author.Needs.{needs}
 use Rattle.ondristela.proofs.give_layout.Statement.{statement}
@@ -20,11 +20,11 @@ cast-result : tie.Need-cast-result
 cast-result c = search needs
 
 returns : tie.Need-returns
-unfolding numberOf openedLeft
+unfolding openedRefusal openedLeft
 returns c = rw (c .before .before .answer .given .1) (refl, c .layout-numbers .ensures)
 
 returns-2 : tie.Need-returns-2
-unfolding numberOf openedLeft
+unfolding openedRefusal openedLeft
 returns-2 c = rw (c .before .answer2 .given .1) (refl, refl)
 
 pub give-layout-spec : {M : Type 1} → statement M

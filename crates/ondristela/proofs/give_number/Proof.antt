@@ -1,8 +1,8 @@
 -- `ondristela::give_number` meets its contract, by the cases of the answer.
 -- Assumes nothing.
 use mathlib.Core.Path.{refl}
-use Rattle.sector_map.specs.SectorMap.{mappedRefusal}
-use Rattle.ondristela.specs.Boundary.{mappedLeft}
+use Rattle.answers.specs.Answers.{numberedRefusal}
+use Rattle.ondristela.specs.Boundary.{numberedLeft}
 use borrow.Author.Needs.{needs}
 use Rattle.ondristela.proofs.give_number.Statement.{statement}
 use Rattle.ondristela.proofs.give_number.Tie as tie
@@ -17,11 +17,11 @@ cast-result : tie.Need-cast-result
 cast-result c = search needs
 
 returns : tie.Need-returns
-unfolding mappedRefusal mappedLeft
+unfolding numberedRefusal numberedLeft
 returns c = rw (c .before .before .answer .given .1) (refl, refl)
 
 returns-2 : tie.Need-returns-2
-unfolding mappedRefusal mappedLeft
+unfolding numberedRefusal numberedLeft
 returns-2 c = rw (c .before .answer2 .given .1) (refl, refl)
 
 pub give-number-spec : {M : Type 1} → statement M

@@ -5,8 +5,8 @@ use borrow.Author.Needs.{needs}
 use Rattle.ondristela.proofs.ondristela_host_sector.Statement.{statement}
 use Rattle.ondristela.proofs.ondristela_host_sector.Tie as tie
 
-layout-of-requires : tie.Need-layout-of-requires
-layout-of-requires c κs = search needs
+layout-from-requires : tie.Need-layout-from-requires
+layout-from-requires c κs = search needs
 
 host-sector-requires : tie.Need-host-sector-requires
 host-sector-requires c κs = search needs
@@ -15,8 +15,8 @@ give-number-requires : tie.Need-give-number-requires
 give-number-requires c κs = search needs
 
 returns : tie.Need-returns
-returns c = rw (sym (c .before .before .before .layout-of .ensures), sym (c .before .before .host-sector .ensures)) (c .give-number .ensures)
+returns c = rw (sym (c .before .before .before .layout-from .ensures), sym (c .before .before .host-sector .ensures)) (c .give-number .ensures)
 
 pub ondristela-host-sector-spec : {M : Type 1} → statement M
 ondristela-host-sector-spec =
-    tie.close (tie.spec layout-of-requires host-sector-requires give-number-requires returns)
+    tie.close (tie.spec layout-from-requires host-sector-requires give-number-requires returns)

@@ -8,11 +8,11 @@ use Rattle.ondristela.proofs.ondristela_location.Tie as tie
 locate-requires : tie.Need-locate-requires
 locate-requires c κs = search needs
 
-give-offset-requires : tie.Need-give-offset-requires
-give-offset-requires c κs = search needs
+give-number-requires : tie.Need-give-number-requires
+give-number-requires c κs = search needs
 
 returns : tie.Need-returns
-returns c = rw (sym (c .before .before .locate .ensures)) (c .give-offset .ensures)
+returns c = rw (sym (c .before .before .locate .ensures)) (c .give-number .ensures)
 
 pub ondristela-location-spec : {M : Type 1} → statement M
-ondristela-location-spec = tie.close (tie.spec locate-requires give-offset-requires returns)
+ondristela-location-spec = tie.close (tie.spec locate-requires give-number-requires returns)

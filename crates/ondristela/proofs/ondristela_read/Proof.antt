@@ -5,14 +5,14 @@ use Rattle.ondristela.proofs.AccessLaws.{read-call}
 use Rattle.ondristela.proofs.ondristela_read.Statement.{statement}
 use Rattle.ondristela.proofs.ondristela_read.Tie as tie
 
-view-of-requires : tie.Need-view-of-requires
-view-of-requires c κs = search needs
+view-from-requires : tie.Need-view-from-requires
+view-from-requires c κs = search needs
 
 read-requires : tie.Need-read-requires
 read-requires c κs = search needs
 
-answer-refusal-requires : tie.Need-answer-refusal-requires
-answer-refusal-requires c κs = search needs
+refusal-requires : tie.Need-refusal-requires
+refusal-requires c κs = search needs
 
 cast-result : tie.Need-cast-result
 cast-result c = search needs
@@ -22,16 +22,16 @@ same-length c = search needs
 
 returns : tie.Need-returns
 returns c =
-    let told = c .before .before .before .before .before .view-of .ensures in
-    read-call _ _ _ _ _ _ told _ _ (c .answer-refusal .ensures) _ (c .before .before .before .read .ensures)
+    let told = c .before .before .before .before .before .view-from .ensures in
+    read-call _ _ _ _ _ _ told _ _ (c .refusal .ensures) _ (c .before .before .before .read .ensures)
 
 pub ondristela-read-spec : {M : Type 1} → statement M
 ondristela-read-spec =
     tie.close
     (tie.spec
-    view-of-requires
+    view-from-requires
     read-requires
-    answer-refusal-requires
+    refusal-requires
     cast-result
     same-length
     returns)

@@ -5,11 +5,11 @@ use borrow.Author.Needs.{needs}
 use Rattle.ondristela.proofs.ondristela_view_protected.Statement.{statement}
 use Rattle.ondristela.proofs.ondristela_view_protected.Tie as tie
 
-layout-of-requires : tie.Need-layout-of-requires
-layout-of-requires c κs = search needs
+layout-from-requires : tie.Need-layout-from-requires
+layout-from-requires c κs = search needs
 
-layout-of-requires-2 : tie.Need-layout-of-requires-2
-layout-of-requires-2 c κs = search needs
+layout-from-requires-2 : tie.Need-layout-from-requires-2
+layout-from-requires-2 c κs = search needs
 
 protected-requires : tie.Need-protected-requires
 protected-requires c κs = search needs
@@ -18,14 +18,14 @@ give-view-requires : tie.Need-give-view-requires
 give-view-requires c κs = search needs
 
 returns : tie.Need-returns
-returns c = rw (sym (c .before .before .before .before .before .layout-of .ensures), sym (c .before .before .before .layout-of2 .ensures), sym (c .before .before .protected .ensures)) (c .give-view .ensures)
+returns c = rw (sym (c .before .before .before .before .before .layout-from .ensures), sym (c .before .before .before .layout-from2 .ensures), sym (c .before .before .protected .ensures)) (c .give-view .ensures)
 
 pub ondristela-view-protected-spec : {M : Type 1} → statement M
 ondristela-view-protected-spec =
     tie.close
     (tie.spec
-    layout-of-requires
-    layout-of-requires-2
+    layout-from-requires
+    layout-from-requires-2
     protected-requires
     give-view-requires
     returns)

@@ -6,14 +6,14 @@ use Rattle.ondristela.proofs.AccessLaws.{write-call}
 use Rattle.ondristela.proofs.ondristela_write.Statement.{statement}
 use Rattle.ondristela.proofs.ondristela_write.Tie as tie
 
-view-of-requires : tie.Need-view-of-requires
-view-of-requires c κs = search needs
+view-from-requires : tie.Need-view-from-requires
+view-from-requires c κs = search needs
 
 write-requires : tie.Need-write-requires
 write-requires c κs = search needs
 
-answer-refusal-requires : tie.Need-answer-refusal-requires
-answer-refusal-requires c κs = search needs
+refusal-requires : tie.Need-refusal-requires
+refusal-requires c κs = search needs
 
 lock-after-requires : tie.Need-lock-after-requires
 lock-after-requires c κs = search needs
@@ -26,16 +26,16 @@ returns c =
     let answered = c .before .before in
     let write = answered .before .before .before in
     let number = c .lock-after .ensures .0 in
-    write-call _ _ _ _ _ _ (write .before .before .view-of .ensures) _ _ (number ∙ answered .answer-refusal .ensures) _ _ _ number
+    write-call _ _ _ _ _ _ (write .before .before .view-from .ensures) _ _ (number ∙ answered .refusal .ensures) _ _ _ number
     (write .write .ensures) (c .lock-after .ensures .1)
 
 pub ondristela-write-spec : {M : Type 1} → statement M
 ondristela-write-spec =
     tie.close
     (tie.spec
-    view-of-requires
+    view-from-requires
     write-requires
-    answer-refusal-requires
+    refusal-requires
     lock-after-requires
     same-length
     returns)

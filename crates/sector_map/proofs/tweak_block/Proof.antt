@@ -3,9 +3,9 @@
 use Prim.Native.Nat.{ℕ, _^_, _<_}
 use mathlib.Core.List.{List}
 use native.Mathlib.Omega.{arith}
-use Rattle.sector_map.specs.declared.Mapped.{Mapped}
+use Rattle.answers.specs.declared.Numbered.{Numbered}
 use Rattle.sector_map.specs.declared.Tweak.{Tweak}
-use Rattle.sector_map.specs.declared.Mapped.the-variants.{Number}
+use Rattle.answers.specs.declared.Numbered.the-variants.{Number}
 use mathlib.Core.Path.{ap}
 use mathlib.Core.Path.{sym, _∙_}
 use Rattle.numbers.proofs.WrittenLaws.{little-endian-bytes-pad}
@@ -15,7 +15,7 @@ use Rattle.sector_map.proofs.tweak_block.Statement.{statement}
 use Rattle.sector_map.proofs.tweak_block.Tie as tie
 
 -- a tweak, from its parts
-abbrev tweak : Mapped → List ℕ → Tweak
+abbrev tweak : Numbered → List ℕ → Tweak
 tweak number block = record { number = number; block = block }
 
 tweak-number-requires : tie.Need-tweak-number-requires

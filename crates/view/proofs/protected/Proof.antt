@@ -13,8 +13,8 @@ use Rattle.view.proofs.protected.Tie as tie
 outer-sound : (c : tie.Else1) → sound (c .before .before .args .outer) ≡ true
 outer-sound c = sym (c .before .is-sound .ensures) ∙ not-false _ (c .if1 .left)
 
-inner-sound : (c : tie.Else2) → sound (c .before .before .before .before .args .hidden) ≡ true
-inner-sound c = sym (c .before .is-sound2 .ensures) ∙ not-false _ (c .if2 .left)
+hiddenLayout-sound : (c : tie.Else2) → sound (c .before .before .before .before .args .hidden) ≡ true
+hiddenLayout-sound c = sym (c .before .is-sound2 .ensures) ∙ not-false _ (c .if2 .left)
 
 is-sound-requires : tie.Need-is-sound-requires
 is-sound-requires c κs = search needs
@@ -31,18 +31,18 @@ unfolding protectedView protectedOf
 returns-2 c = simp (outer-sound (c .before .before), sym (c .before .is-sound2 .ensures) ∙ not-true _ (c .if2 .taken))
 
 do-nest-requires : tie.Need-do-nest-requires
-do-nest-requires c κs = (outer-sound (c .before .before), inner-sound c)
+do-nest-requires c κs = (outer-sound (c .before .before), hiddenLayout-sound c)
 
 returns-3 : tie.Need-returns-3
 unfolding protectedView protectedOf
-returns-3 c = simp (outer-sound (c .before .before .before .before), inner-sound (c .before .before), sym (c .before .do-nest .ensures) ∙ not-true _ (c .if3 .taken))
+returns-3 c = simp (outer-sound (c .before .before .before .before), hiddenLayout-sound (c .before .before), sym (c .before .do-nest .ensures) ∙ not-true _ (c .if3 .taken))
 
 area-end-requires : tie.Need-area-end-requires
-area-end-requires c κs = inner-sound (c .before .before)
+area-end-requires c κs = hiddenLayout-sound (c .before .before)
 
 returns-4 : tie.Need-returns-4
 unfolding protectedView protectedOf
-returns-4 c = simp (outer-sound (c .before .before .before .before .before), inner-sound (c .before .before .before), sym (c .before .before .do-nest .ensures) ∙ not-false _ (c .before .if3 .left), c .area-end .ensures)
+returns-4 c = simp (outer-sound (c .before .before .before .before .before), hiddenLayout-sound (c .before .before .before), sym (c .before .before .do-nest .ensures) ∙ not-false _ (c .before .if3 .left), c .area-end .ensures)
 
 pub protected-spec : {M : Type 1} → statement M
 protected-spec =

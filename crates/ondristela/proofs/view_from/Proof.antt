@@ -1,13 +1,13 @@
--- `ondristela::view_of` meets its contract.
+-- `ondristela::view_from` meets its contract.
 -- Assumes nothing.
 use mathlib.Core.Path.{refl}
-use Rattle.ondristela.specs.Boundary.{viewOf}
+use Rattle.ondristela.specs.Boundary.{viewFrom}
 use borrow.Author.Needs.{needs}
-use Rattle.ondristela.proofs.view_of.Statement.{statement}
-use Rattle.ondristela.proofs.view_of.Tie as tie
+use Rattle.ondristela.proofs.view_from.Statement.{statement}
+use Rattle.ondristela.proofs.view_from.Tie as tie
 
-layout-of-requires : tie.Need-layout-of-requires
-layout-of-requires c κs = search needs
+layout-from-requires : tie.Need-layout-from-requires
+layout-from-requires c κs = search needs
 
 element-copy-out-protection-of : tie.Need-element-copy-out-protection-of
 element-copy-out-protection-of c = search needs
@@ -25,14 +25,14 @@ element-copy-out-t17 : tie.Need-element-copy-out-t17
 element-copy-out-t17 c = search needs
 
 returns : tie.Need-returns
-unfolding viewOf
-returns c = rw (c .before .before .before .before .before .layout-of .ensures, c .before .protection-of .ensures) refl
+unfolding viewFrom
+returns c = rw (c .before .before .before .before .before .layout-from .ensures, c .before .protection-of .ensures) refl
 
-pub view-of-spec : {M : Type 1} → statement M
-view-of-spec =
+pub view-from-spec : {M : Type 1} → statement M
+view-from-spec =
     tie.close
     (tie.spec
-    layout-of-requires
+    layout-from-requires
     element-copy-out-protection-of
     element-copy-out-protection-of-2
     element-copy-out-protection-of-3

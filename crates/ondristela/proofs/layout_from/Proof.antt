@@ -1,10 +1,10 @@
--- `ondristela::layout_of` meets its contract.
+-- `ondristela::layout_from` meets its contract.
 -- Assumes nothing.
 use mathlib.Core.Path.{refl}
-use Rattle.ondristela.specs.Boundary.{layoutOf}
+use Rattle.ondristela.specs.Boundary.{layoutFrom}
 use borrow.Author.Needs.{needs}
-use Rattle.ondristela.proofs.layout_of.Statement.{statement}
-use Rattle.ondristela.proofs.layout_of.Tie as tie
+use Rattle.ondristela.proofs.layout_from.Statement.{statement}
+use Rattle.ondristela.proofs.layout_from.Tie as tie
 
 shared-slice-read-t3 : tie.Need-shared-slice-read-t3
 shared-slice-read-t3 c = search needs
@@ -31,11 +31,11 @@ shared-slice-read-t17 : tie.Need-shared-slice-read-t17
 shared-slice-read-t17 c = search needs
 
 returns : tie.Need-returns
-unfolding layoutOf
+unfolding layoutFrom
 returns c = refl
 
-pub layout-of-spec : {M : Type 1} → statement M
-layout-of-spec =
+pub layout-from-spec : {M : Type 1} → statement M
+layout-from-spec =
     tie.close
     (tie.spec
     shared-slice-read-t3
