@@ -1,0 +1,11 @@
+pub mod Alone
+pub mod CallLaws
+pub mod Cases
+pub mod Independence
+pub mod Lawful
+pub mod LayLaws
+pub mod ReplySameness
+pub mod RunLaws
+pub mod Sameness
+pub mod SectorLaws
+pub mod SideLaws

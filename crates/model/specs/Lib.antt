@@ -1,0 +1,4 @@
+pub mod Model
+pub mod Runs
+pub mod Sectors
+pub mod Sides

@@ -1,0 +1,88 @@
+-- Calls on two views of one image, an outer and a hidden one: their interleavings, their rules together, and what each side is told.
+-- Assumes nothing.
+use Prim.Native.Nat.{ℕ}
+use mathlib.Core.Path.{_≡_}
+use mathlib.Core.Bool.{Bool, true, false, not, _&&_, cond}
+use mathlib.Core.List.{List, [], _∷_}
+use lib.ListN.{take, drop}
+use Rattle.model.specs.Model.{Rules, State, Reply}
+
+-- the view that a call is on
+pub data Side : Type 0 where
+  outer hidden : Side
+
+-- two sides are one
+unfoldable pub isSide : Side → Side → Bool
+isSide outer outer = true
+isSide outer hidden = false
+isSide hidden outer = false
+isSide hidden hidden = true
+
+-- a call on its view
+pub record Turn (Call : Type 0) : Type 0 where
+  pub side : Side
+  pub call : Call
+
+abbrev pub turn : {Call : Type 0} → Side → Call → Turn Call
+turn side call = record { side = side; call = call }
+
+-- an interleaving of two lists: each list's calls in their order
+pub data Interleaves {Call : Type 0} : List Call → List Call → List (Turn Call) → Type 0 where
+  none : Interleaves [] [] []
+  fromOuter : {call : Call} {xs ys : List Call} {turns : List (Turn Call)} → Interleaves xs ys turns → Interleaves (call ∷ xs) ys (turn outer call ∷ turns)
+  fromHidden : {call : Call} {xs ys : List Call} {turns : List (Turn Call)} → Interleaves xs ys turns → Interleaves xs (call ∷ ys) (turn hidden call ∷ turns)
+
+-- one for each side
+pub record Both (A : Type 0) : Type 0 where
+  pub outerOne : A
+  pub hiddenOne : A
+
+-- that of a side, and another one put there
+unfoldable pub at : {A : Type 0} → Side → Both A → A
+at outer both = both .outerOne
+at hidden both = both .hiddenOne
+
+unfoldable pub put : {A : Type 0} → Side → A → Both A → Both A
+put outer one both = record { outerOne = one; hiddenOne = both .hiddenOne }
+put hidden one both = record { outerOne = both .outerOne; hiddenOne = one }
+
+-- a call that keeps its contract: it finds its view as its side's last call left it, and the image as the last call on either side did
+pub record OnSide {Held Call Given : Type 0} (Step : State Held → Call → Given → State Held → Type 0)
+    (state : State (Both Held)) (call : Turn Call) (given : Given) (after : State (Both Held)) : Type 0 where
+  pub left : State Held
+  pub keeps : Step (record { image = state .image; held = at (call .side) (state .held) }) (call .call) given left
+  pub leaves : after ≡ record { image = left .image; held = put (call .side) (left .held) (state .held) }
+
+-- the rules of both sides' calls: each call goes by its side's rules and lock
+unfoldable pub sided : {Call Lock Answer : Type 0} → (Side → Rules Call Lock Answer) → Rules (Turn Call) (Both Lock) Answer
+sided rules =
+    record {
+      buffer = λ turn. rules (turn .side) .buffer (turn .call);
+      writes = λ turn. rules (turn .side) .writes (turn .call);
+      hosts = λ turn. rules (turn .side) .hosts (turn .call);
+      judge = λ turn locks. rules (turn .side) .judge (turn .call) (at (turn .side) locks);
+      accepts = λ turn. rules (turn .side) .accepts (turn .call);
+      lockAfter = λ turn answer locks. put (turn .side) (rules (turn .side) .lockAfter (turn .call) answer (at (turn .side) locks)) locks;
+      stored = λ turn. rules (turn .side) .stored (turn .call);
+      shown = λ turn. rules (turn .side) .shown (turn .call);
+    }
+
+-- of a list of calls and their replies, what one side is told of its own
+unfoldable pub toldTo : {Call Given A : Type 0} → (Call → Given → A) → Side → List (Turn Call) → List Given → List A
+toldTo tell side [] answers = []
+toldTo tell side (turn ∷ turns) [] = []
+toldTo tell side (turn ∷ turns) (given ∷ answers) =
+    cond (isSide side (turn .side)) (tell (turn .call) given ∷ toldTo tell side turns answers) (toldTo tell side turns answers)
+
+-- the pieces of a buffer, but for those of protected sectors, which are left out
+unfoldable pub unprotectedPieces : (ℕ → Bool) → List ℕ → List ℕ → List (List ℕ)
+unprotectedPieces protects [] buffer = []
+unprotectedPieces protects (host ∷ hosts) buffer =
+    cond (protects host) [] (take 512 buffer) ∷ unprotectedPieces protects hosts (drop 512 buffer)
+
+-- a reply but for protected sectors: its answer, and its buffer, of an accepted read in pieces
+unfoldable pub unprotected : {Call Lock Answer : Type 0} → Rules Call Lock Answer → (ℕ → Bool) → Call → Reply Answer → Answer × List (List ℕ)
+unprotected rules protects call given = (
+  given .answer,
+  cond (rules .accepts call (given .answer) && not (rules .writes call)) (unprotectedPieces protects (rules .hosts call) (given .buffer)) (given .buffer ∷ []),
+)
