@@ -44,4 +44,3 @@ pub mod TestCases
 pub mod TouchLaws
 pub mod ViewLaws
 pub mod Views
-pub mod WorkedCases

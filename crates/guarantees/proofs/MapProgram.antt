@@ -15,12 +15,10 @@ use Rattle.sector_map.specs.SectorMap.{sectors, firstSector, sectorCount, hostS
 use Rattle.answers.specs.declared.Numbered.the-variants.{Number}
 use Rattle.map_input.specs.MapInput.{openedInput}
 use Rattle.map_output.specs.Ascii.{ascii}
-use Rattle.map_output.specs.Decimal.{digits, decimal}
 use Rattle.map_output.specs.MapOutput.{line, numberLine, magicLine, kindLine, headerLines, areaLines, sectorLines, lastSector}
 use Rattle.map_output.specs.MapOutput.{layoutLines, refusalLine}
 use Rattle.guarantees.specs.SectorMap.{Sound}
-use Rattle.guarantees.specs.WorkedCases.{volumeM}
-use Rattle.guarantees.specs.MapProgram.{ReadsInput, letters, MagicWord, vera, other, KindWord, hidden, standard, PrintsLines}
+use Rattle.guarantees.specs.MapProgram.{ReadsInput, MagicWord, vera, other, KindWord, hidden, standard, PrintsLines}
 use Rattle.guarantees.proofs.DecimalLaws.{is-decimal}
 use Rattle.guarantees.proofs.SectorMap.{maps-exactly}
 
@@ -62,11 +60,6 @@ ten : {a k m n : List ℕ} (b c d e f g h i : List ℕ) → a ≡ m → k ≡ n
     → (a ++ b ++ c) ++ (k ++ d ++ e ++ f) ++ (g ++ h ++ i) ≡ m ++ b ++ c ++ n ++ d ++ e ++ f ++ g ++ h ++ i
 ten b c d e f g h i p q = rw (p, q) (simp append-assoc)
 
-worked : layoutLines volumeM
-    ≡ letters "mark TRUE\nversion 5\nneeds 7\nkind standard\nhost 1048576\nstart 131072\nsize 786432\nsectors 1536\nfirst 256\nlast 1791\n"
-unfolding layoutLines headerLines areaLines sectorLines magicLine kindLine numberLine line decimal digits sectors firstSector lastSector volumeM
-worked = refl
-
 maps : (layout : Layout) → Sound layout
     → (sectorCount layout ≡ Number (layout .«data_size» / 512))
     × (hostSector layout 0 ≡ Number (layout .«data_start» / 512))
@@ -89,7 +82,6 @@ prints-lines =
       mapped = maps;
       refusal = λ number. refl;
       decimals = is-decimal;
-      worked = worked;
       printed = λ text before after count r. rw (r .content, r .counts) (take-append-seam text (drop (length text) before));
       untouched = λ text before after count r. rw (r .content, r .counts) (drop-append-seam text (drop (length text) before));
     }

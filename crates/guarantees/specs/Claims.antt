@@ -16,7 +16,6 @@ use Rattle.guarantees.specs.Numbers.{SpellsNumbers, ChecksBytes}
 use Rattle.guarantees.specs.Opening.{OpensExactlyWhen, LocatesHeaders}
 use Rattle.guarantees.specs.SectorMap.{MapsExactly, OpenedIsSound}
 use Rattle.guarantees.specs.Views.{MakesViews}
-use Rattle.guarantees.specs.WorkedCases.{AsWorked}
 
 pub record Claims : Type 0 where
   -- what the others are stated in
@@ -49,5 +48,3 @@ pub record Claims : Type 0 where
   -- the map program
   pub input : ReadsInput
   pub output : PrintsLines
-  -- the worked cases
-  pub worked : AsWorked

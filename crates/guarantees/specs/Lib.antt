@@ -14,4 +14,3 @@ pub mod ReferenceModel
 pub mod SectorMap
 pub mod Table
 pub mod Views
-pub mod WorkedCases

@@ -16,7 +16,6 @@ use Rattle.map_input.specs.MapInput.{openedInput}
 use Rattle.map_output.specs.Decimal.{decimal}
 use Rattle.map_output.specs.MapOutput.{layoutLines, refusalLine, Rendered}
 use Rattle.guarantees.specs.SectorMap.{Sound}
-use Rattle.guarantees.specs.WorkedCases.{volumeM}
 
 -- the input: eight bytes that spell S, the first the most significant, then a code and a candidate; any other length is refused 1
 pub record ReadsInput : Type 0 where
@@ -79,9 +78,6 @@ pub record PrintsLines : Type 0 where
   pub refusal : (number : ℕ) → refusalLine number ≡ labelled "refused" (decimal number)
   -- numbers of 64 bits are in decimal
   pub decimals : (number : ℕ) → number < 2 ^ 64 → IsDecimal number (decimal number)
-  -- the whole output for M, computed
-  pub worked : layoutLines volumeM
-      ≡ letters "mark TRUE\nversion 5\nneeds 7\nkind standard\nhost 1048576\nstart 131072\nsize 786432\nsectors 1536\nfirst 256\nlast 1791\n"
   -- what is printed, the buffer's first count bytes, is the text, and the rest of the buffer is left as it was
   pub printed : (text before after : List ℕ) (count : ℕ) → Rendered text before after count → take count after ≡ text
   pub untouched : (text before after : List ℕ) (count : ℕ) → Rendered text before after count → drop count after ≡ drop count before

@@ -11,7 +11,6 @@ use Rattle.guarantees.proofs.Numbers.{spells-numbers, checks-bytes}
 use Rattle.guarantees.proofs.Opening.{opens-exactly-when, locates-headers}
 use Rattle.guarantees.proofs.SectorMap.{maps-exactly, opened-sound}
 use Rattle.guarantees.proofs.Views.{makes-views}
-use Rattle.guarantees.proofs.WorkedCases.{as-worked}
 use Rattle.guarantees.proofs.demands.Statement.{statement}
 use Rattle.guarantees.proofs.demands.Tie as tie
 
@@ -40,7 +39,6 @@ returns c =
       carried = carries-runs;
       input = reads-input;
       output = prints-lines;
-      worked = as-worked;
     }
 
 pub demands-spec : {M : Type 1} → statement M

@@ -1,6 +1,7 @@
 -- The worked cases hold: antt computes both sides.
 -- Assumes nothing.
-use mathlib.Core.Path.{refl}
+use mathlib.Core.Path.{_≡_, refl}
+use mathlib.Core.List.{map}
 use Rattle.numbers.specs.Numbers.{bigEndian, bigEndianFrom, littleEndian, littleEndianBytes}
 use Rattle.crc32.specs.Crc32.{crc32, crcFrom, bitSteps, bitStep}
 use Rattle.layout.specs.Rules.{hostSizeRule, dataAreaRule, startRule, endRule}
@@ -13,11 +14,14 @@ use Rattle.opening.specs.Opening.{lengthsRule, codesRule, candidateAt, judgemen
 use Rattle.sector_map.specs.SectorMap.{sectors, firstSector, hostSector, userSector, tweakNumber, blockOf, tweakOf}
 use Rattle.view.specs.Access.{checked, extentStart, touches, readNumber, writeNumber, after}
 use Rattle.view.specs.Views.{areaEnd, protectionRule, soundView, plainOf, protectedOf, nests, plainView, protectedView}
-use Rattle.guarantees.specs.WorkedCases.{bytesOf, fieldBytes, headerWith, shown, opens, volumeM, volumeN, mappedShown, tweakShown}
-use Rattle.guarantees.specs.WorkedCases.{onView, writing, reading, leaving, cases, AsWorked}
+use Rattle.map_output.specs.Decimal.{digits, decimal}
+use Rattle.map_output.specs.MapOutput.{line, numberLine, magicLine, kindLine, headerLines, areaLines, sectorLines, lastSector, layoutLines}
+use Rattle.guarantees.specs.MapProgram.{letters}
+use Rattle.worked_cases.specs.WorkedCases.{bytesOf, fieldBytes, headerWith, toldOf, opens, volumeM, volumeN, mappedTold, tweakTold}
+use Rattle.worked_cases.specs.WorkedCases.{onView, writing, reading, leaving, Case, cases, AsWorked}
 
-pub as-worked : AsWorked
-unfolding AsWorked cases opens shown headerWith fieldBytes bytesOf volumeM volumeN mappedShown tweakShown
+table : map (λ (c : Case). c .answer) cases ≡ map (λ (c : Case). c .expected) cases
+unfolding cases opens toldOf headerWith fieldBytes bytesOf volumeM volumeN mappedTold tweakTold
     opened lengthsRule codesRule codeRule hostSizeRule searchFrom firstRefusal judgements candidateAt locationOf locations
     judge isHeader magicOf fieldsOf checksumsMatch sameBytes allZero answer acceptedLayout
     firstBroken versionRule reservedRule flagsRule sectorSizeRule hiddenSizeRule areaRule dataAreaRule startRule endRule
@@ -25,4 +29,12 @@ unfolding AsWorked cases opens shown headerWith fieldBytes bytesOf volumeM volum
     hostSector userSector tweakNumber tweakOf blockOf sectors firstSector sound littleEndianBytes
     onView writing reading leaving plainView protectedView plainOf protectedOf nests areaEnd protectionRule soundView
     checked extentStart touches readNumber writeNumber after
-as-worked = refl
+table = refl
+
+output : layoutLines volumeM
+    ≡ letters "mark TRUE\nversion 5\nneeds 7\nkind standard\nhost 1048576\nstart 131072\nsize 786432\nsectors 1536\nfirst 256\nlast 1791\n"
+unfolding layoutLines headerLines areaLines sectorLines magicLine kindLine numberLine line decimal digits sectors firstSector lastSector volumeM
+output = refl
+
+pub as-worked : AsWorked
+as-worked = record { table = table; output = output }

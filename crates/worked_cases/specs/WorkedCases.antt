@@ -1,4 +1,5 @@
--- The starred cases (RULES.md, Worked cases), in one table, computed from the definitions that the contracts cite. Assumes nothing.
+-- The worked cases (RULES.md, Worked cases): the starred ones in one table, and the map program's output, computed from the definitions that
+-- the contracts cite. Assumes nothing.
 use Prim.Native.Nat.{ℕ, zero, suc, _-_, _*_, _/_, _%_, _^_}
 use mathlib.Core.Path.{_≡_}
 use mathlib.Core.List.{List, [], _∷_, _++_, map}
@@ -18,6 +19,8 @@ use Rattle.view.specs.Views.{plainView, protectedView}
 use Rattle.view.specs.declared.View.{View}
 use Rattle.view.specs.declared.Viewed.{Viewed}
 use Rattle.view.specs.declared.Viewed.the-variants as viewed
+use Rattle.map_output.specs.MapOutput.{layoutLines}
+use Rattle.guarantees.specs.MapProgram.{letters}
 
 -- a number as k bytes, the most significant first
 unfoldable pub bytesOf : ℕ → ℕ → List ℕ
@@ -37,14 +40,14 @@ headerWith keyChecksum size encryptedSize =
     let fields = fieldBytes keyChecksum size encryptedSize in
     replicate 64 0 ++ fields ++ bytesOf 4 (crc32 fields) ++ replicate 256 0
 
--- what a case shows of opening: the refusal number, or 0 and the count of sectors
-unfoldable pub shown : Opened → List ℕ
-shown (Accepted layout) = 0 ∷ layout .«data_size» / 512 ∷ []
-shown (Refused number) = number ∷ []
+-- what a case tells of opening: the refusal number, or 0 and the count of sectors
+unfoldable pub toldOf : Opened → List ℕ
+toldOf (Accepted layout) = 0 ∷ layout .«data_size» / 512 ∷ []
+toldOf (Refused number) = number ∷ []
 
 -- opening at code 0 with one header, for S
 unfoldable pub opens : ℕ → List ℕ → List ℕ
-opens hostSize header = shown (opened header (0 ∷ []) hostSize)
+opens hostSize header = toldOf (opened header (0 ∷ []) hostSize)
 
 -- M, a standard volume
 unfoldable pub volumeM : Layout
@@ -74,14 +77,14 @@ volumeN =
       candidate = 1;
     }
 
--- what a case shows of the map: the refusal number, or 0 and the sector or tweak number
-unfoldable pub mappedShown : Numbered → List ℕ
-mappedShown (mapped.Number number) = 0 ∷ number ∷ []
-mappedShown (mapped.Refused number) = number ∷ []
+-- what a case tells of the map: the refusal number, or 0 and the sector or tweak number
+unfoldable pub mappedTold : Numbered → List ℕ
+mappedTold (mapped.Number number) = 0 ∷ number ∷ []
+mappedTold (mapped.Refused number) = number ∷ []
 
 -- .. and of a tweak, its block behind that
-unfoldable pub tweakShown : Tweak → List ℕ
-tweakShown tweak = mappedShown (tweak .number) ++ tweak .block
+unfoldable pub tweakTold : Tweak → List ℕ
+tweakTold tweak = mappedTold (tweak .number) ++ tweak .block
 
 -- the refusal number of a call on a view that was made, 0 for accepted
 unfoldable pub onView : Viewed → (View → ℕ) → List ℕ
@@ -118,16 +121,16 @@ cases =
     -- V and E 2^64-512: 10
     ∷ record { answer = opens 1048576 (headerWith keyChecksum (2 ^ 64 - 512) (2 ^ 64 - 512)); expected = 10 ∷ [] }
     -- M sector 0 has tweak 256, block 00 01 and fourteen zeros
-    ∷ record { answer = tweakShown (tweakOf volumeM 0); expected = 0 ∷ 256 ∷ 0x00 ∷ 0x01 ∷ replicate 14 0 }
+    ∷ record { answer = tweakTold (tweakOf volumeM 0); expected = 0 ∷ 256 ∷ 0x00 ∷ 0x01 ∷ replicate 14 0 }
     -- M sector 1,535 has tweak 1,791, block FF 06 and fourteen zeros
-    ∷ record { answer = tweakShown (tweakOf volumeM 1535); expected = 0 ∷ 1791 ∷ 0xFF ∷ 0x06 ∷ replicate 14 0 }
+    ∷ record { answer = tweakTold (tweakOf volumeM 1535); expected = 0 ∷ 1791 ∷ 0xFF ∷ 0x06 ∷ replicate 14 0 }
     -- M sector 1,536: 16
-    ∷ record { answer = mappedShown (hostSector volumeM 1536); expected = 16 ∷ [] }
+    ∷ record { answer = mappedTold (hostSector volumeM 1536); expected = 16 ∷ [] }
     -- N sector 0 has tweak 1,280, block 00 05 and fourteen zeros
-    ∷ record { answer = tweakShown (tweakOf volumeN 0); expected = 0 ∷ 1280 ∷ 0x00 ∷ 0x05 ∷ replicate 14 0 }
+    ∷ record { answer = tweakTold (tweakOf volumeN 0); expected = 0 ∷ 1280 ∷ 0x00 ∷ 0x05 ∷ replicate 14 0 }
     -- back: host sector 255: 16; 256 gives 0 in M
-    ∷ record { answer = mappedShown (userSector volumeM 255); expected = 16 ∷ [] }
-    ∷ record { answer = mappedShown (userSector volumeM 256); expected = 0 ∷ 0 ∷ [] }
+    ∷ record { answer = mappedTold (userSector volumeM 255); expected = 16 ∷ [] }
+    ∷ record { answer = mappedTold (userSector volumeM 256); expected = 0 ∷ 0 ∷ [] }
     -- M protecting N: write 1,023 count 1 accepted; count 2: 18
     ∷ record { answer = onView (protectedView volumeM volumeN) (writing 1023 1); expected = 0 ∷ [] }
     ∷ record { answer = onView (protectedView volumeM volumeN) (writing 1023 2); expected = 18 ∷ [] }
@@ -140,6 +143,8 @@ cases =
     ∷ record { answer = onView (plainView volumeM) (writing 1537 0); expected = 16 ∷ [] }
     ∷ []
 
--- every case is as the rules say
-unfoldable pub AsWorked : Type 0
-AsWorked = map (λ (c : Case). c .answer) cases ≡ map (λ (c : Case). c .expected) cases
+-- the claim: every case, and the map program's whole output for M, is as the rules say
+pub record AsWorked : Type 0 where
+  pub table : map (λ (c : Case). c .answer) cases ≡ map (λ (c : Case). c .expected) cases
+  pub output : layoutLines volumeM
+      ≡ letters "mark TRUE\nversion 5\nneeds 7\nkind standard\nhost 1048576\nstart 131072\nsize 786432\nsectors 1536\nfirst 256\nlast 1791\n"
