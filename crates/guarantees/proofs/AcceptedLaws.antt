@@ -7,8 +7,7 @@ use mathlib.Core.Bool.{Bool, true, false, _&&_}
 use lib.Dec.{leb, eqb}
 use lib.ListN.{length}
 use borrow.Author.Tests.{leb-true, eqb-true}
-use Rattle.layout.proofs.RuleLaws.{and-true-right}
-use Rattle.layout.specs.Rules.{sectorBytes, hostSizeRule, startRule, endRule, dataAreaRule}
+use Rattle.layout.proofs.RuleLaws.{sound-ends}
 use Rattle.layout.specs.Soundness.{sound}
 use Rattle.layout.specs.declared.Layout.{Layout}
 use Rattle.sector_map.specs.SectorMap.{sectors, firstSector}
@@ -28,17 +27,8 @@ lines-kept false b c d rest e = absurd (omega arith)
 
 -- a sound layout's sectors lie in its host
 sectors-fit : (layout : Layout) → sound layout ≡ true → (firstSector layout + sectors layout) * 512 ≤ layout .«host_size»
-unfolding sound dataAreaRule endRule firstSector sectors
-sectors-fit layout kept =
-    let size = layout .«host_size» in
-    let start = layout .«data_start» in
-    let area = layout .«data_size» in
-    let fits = and-true-right (hostSizeRule size) (dataAreaRule (layout .kind) size start area) kept in
-    omega (
-      arith,
-      leb-true (start + area + 131072) size
-          (and-true-right (leb sectorBytes area && eqb (area % sectorBytes) 0 && eqb (start % sectorBytes) 0 && startRule (layout .kind) start) (endRule size start area) fits),
-    )
+unfolding firstSector sectors
+sectors-fit layout kept = omega (arith, sound-ends layout kept)
 
 module _ (outerLayout hiddenLayout : Layout) where
   -- the checks of an accepted call

@@ -27,9 +27,9 @@ use Rattle.guarantees.specs.Boundary.{ZeroAccepts}
 use Rattle.guarantees.specs.Header.{number}
 use Rattle.guarantees.specs.Opening.{Lengths, Codes, HostSize}
 use Rattle.guarantees.proofs.Reflects.{Reflects, holds, fails}
-use Rattle.guarantees.proofs.RuleLaws.{lengths-reflects, codes-reflects, host-size-reflects}
+use Rattle.guarantees.proofs.RuleReflections.{lengths-reflects, codes-reflects, host-size-reflects}
 use Rattle.guarantees.proofs.JudgementLaws.{number-bounds}
-use Rattle.guarantees.proofs.SearchLaws.{Found, anAccepted, aHeader, noHeader, search-says}
+use Rattle.guarantees.proofs.FirstAcceptedLaws.{Found, anAccepted, aHeader, noHeader, search-says}
 
 -- answers of any kind whose acceptances have the number 0
 module _ {A R : Type 0} {number : R → ℕ} {accepted : A → R} where

@@ -1,4 +1,4 @@
--- The candidate at an index: it is judged by the kind of its code, and its layout tells what it holds.
+-- The candidate at an index: it is judged by the kind of its code.
 -- Assumes nothing.
 use Prim.Native.Nat.{ℕ, zero, suc, _%_, _≤_, _<_}
 use native.Mathlib.Omega.{arith}
@@ -6,13 +6,12 @@ use mathlib.Core.Path.{_≡_, refl}
 use mathlib.Core.Logic.{inl, inr}
 use mathlib.Core.List.{List}
 use lib.ListN.{length, getD, length-take, length-drop}
-use Rattle.header.specs.Header.{fieldsOf, acceptedLayout, judge}
+use Rattle.header.specs.Header.{judge}
 use Rattle.opening.specs.Locations.{locations, locationOf}
 use Rattle.opening.specs.Opening.{candidateAt}
-use Rattle.guarantees.specs.Header.{KnownKind, IsVera, IsTrue, Tells}
+use Rattle.guarantees.specs.Header.{KnownKind}
 use Rattle.guarantees.specs.Opening.{Lengths, candidate, kindOf}
-use Rattle.guarantees.proofs.HeaderLaws.{MagicIs, spellsVera, spellsTrue, spellsNeither, magic-of-says}
-use Rattle.guarantees.proofs.JudgementLaws.{Told, Judgement, judge-says}
+use Rattle.guarantees.proofs.JudgementLaws.{Judgement, judge-says}
 
 location-of-kind : (code : ℕ) → code ≤ 3 → locationOf code .kind ≡ kindOf code
 unfolding locationOf locations kindOf
@@ -34,31 +33,6 @@ kind-of-says code = go (code % 2) (omega arith)
 length-candidate : (candidates codes : List ℕ) (i : ℕ) → Lengths candidates codes → i < length codes → length (candidate candidates i) ≡ 512
 unfolding candidate
 length-candidate candidates codes i lengths inside = simp (length-take, length-drop) (omega arith)
-
-vera-told : {h : List ℕ} {magic : ℕ} → MagicIs h magic → IsVera h → magic ≡ 0
-vera-told (spellsVera v g) u = refl
-vera-told (spellsTrue t f) u = absurd (f u)
-vera-told (spellsNeither f) u = absurd (f (inl u))
-
-true-told : {h : List ℕ} {magic : ℕ} → MagicIs h magic → IsTrue h → magic ≡ 1
-true-told (spellsVera v g) u = absurd (g u)
-true-told (spellsTrue t f) u = refl
-true-told (spellsNeither f) u = absurd (f (inr u))
-
-pub layout-tells : (kind hostSize index : ℕ) (h : List ℕ) → Tells kind hostSize index h (Told kind hostSize index h)
-unfolding acceptedLayout fieldsOf
-layout-tells kind hostSize index h =
-    record {
-      hostSizeTold = refl;
-      kindTold = refl;
-      veraTold = vera-told (magic-of-says h);
-      trueTold = true-told (magic-of-says h);
-      versionTold = refl;
-      minProgramVersionTold = refl;
-      startTold = refl;
-      sizeTold = refl;
-      candidateTold = refl;
-    }
 
 module _ (candidates codes : List ℕ) (hostSize i : ℕ) where
   pub judge-at-says : Lengths candidates codes → i < length codes → getD codes i 0 ≤ 3

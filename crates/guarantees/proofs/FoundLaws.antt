@@ -11,7 +11,7 @@ use Rattle.layout.specs.declared.Opened.{Opened}
 use Rattle.layout.specs.declared.Opened.the-variants.{Accepted, Refused}
 use Rattle.guarantees.specs.Header.{IsHeader, Line, number, FirstBroken}
 use Rattle.guarantees.specs.Opening.{candidate, kindOf, IsAccepted, FirstAccepted, FirstHeader, TellsAt}
-use Rattle.guarantees.proofs.SearchLaws.{Found, anAccepted, aHeader, noHeader}
+use Rattle.guarantees.proofs.FirstAcceptedLaws.{Found, anAccepted, aHeader, noHeader}
 
 same-first : {i j : ℕ} → (i < j → ⊥) → (j < i → ⊥) → i ≡ j
 same-first f g = omega arith

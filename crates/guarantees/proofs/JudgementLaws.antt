@@ -11,10 +11,11 @@ use borrow.Author.Tests.{ne-eqb}
 use Rattle.layout.specs.declared.Layout.{Layout}
 use Rattle.layout.specs.declared.Opened.{Opened}
 use Rattle.layout.specs.declared.Opened.the-variants.{Accepted, Refused}
-use Rattle.header.specs.Header.{magicOf, fieldsOf, firstBroken, acceptedLayout, answer, judge}
+use Rattle.header.specs.Header.{fieldsOf, firstBroken, acceptedLayout, answer, judge}
 use Rattle.guarantees.specs.Header.{KnownKind, IsHeader, Line, version, reserved, flags, sectorSize, hiddenSize, dataArea, number, Keeps, FirstBroken}
 use Rattle.guarantees.proofs.Reflects.{Reflects, holds, fails, below-suc}
 use Rattle.guarantees.proofs.HeaderLaws.{magic-of-says, is-header-reflects}
+use Rattle.guarantees.proofs.ToldLaws.{Told}
 use Rattle.guarantees.proofs.LineLaws.{version-reflects, reserved-reflects, flags-reflects}
 use Rattle.guarantees.proofs.LineLaws.{sector-size-reflects, hidden-size-reflects, data-area-reflects}
 
@@ -65,29 +66,25 @@ module _ (kind hostSize : ℕ) (h : List ℕ) where
   unfolding Keeps
   known-kind keeps = keeps .0
 
-  first-broken-says : IsHeader h → BrokenLine (firstBroken kind hostSize (magicOf h) (fieldsOf h) h)
-  unfolding firstBroken number
-  first-broken-says r =
+  first-broken-says : (index : ℕ) → IsHeader h → BrokenLine (firstBroken (Told kind hostSize index h) (fieldsOf h) h)
+  unfolding firstBroken acceptedLayout number
+  first-broken-says index r =
       line-says version (version-reflects kind hostSize h (r .magic) (magic-of-says h)) (λ n lt line e. absurd (omega (arith, number-bounds line))) λ to5.
       line-says reserved (reserved-reflects kind hostSize h (r .magic) (magic-of-says h)) to5 λ to6.
       line-says flags (flags-reflects kind hostSize h) to6 λ to7.
       line-says sectorSize (sector-size-reflects kind hostSize h) to7 λ to8.
       line-says hiddenSize (hidden-size-reflects kind hostSize h) to8 λ to9.
-      line-says dataArea (data-area-reflects kind hostSize h (known-kind (to9 9 (omega arith) hiddenSize refl))) to9 λ to10.
+      line-says dataArea (data-area-reflects kind hostSize index h (known-kind (to9 9 (omega arith) hiddenSize refl))) to9 λ to10.
       allKept (λ line. to10 (number line) (omega (arith, number-bounds line)) line refl)
 
 module _ (kind hostSize index : ℕ) (h : List ℕ) where
-  -- what the candidate tells where it is accepted
-  abbrev pub Told : Layout
-  Told = acceptedLayout kind hostSize index (magicOf h) (fieldsOf h)
-
   -- what the judgement of a candidate says
   pub data Judgement : Opened → Type 0 where
-    accepts : IsHeader h → ((line : Line) → Keeps line kind hostSize h) → Judgement (Accepted Told)
+    accepts : IsHeader h → ((line : Line) → Keeps line kind hostSize h) → Judgement (Accepted (Told kind hostSize index h))
     refuses : IsHeader h → (line : Line) → FirstBroken line kind hostSize h → Judgement (Refused (number line))
     refuses4 : (IsHeader h → ⊥) → Judgement (Refused 4)
 
-  answer-says : {n : ℕ} → IsHeader h → BrokenLine kind hostSize h n → Judgement (answer n Told)
+  answer-says : {n : ℕ} → IsHeader h → BrokenLine kind hostSize h n → Judgement (answer n (Told kind hostSize index h))
   unfolding answer
   answer-says r (allKept keeps) = accepts r keeps
   answer-says r (oneBroken line breaks) = rw (ne-eqb (number line) 0 (omega (arith, number-bounds line))) (refuses r line breaks)
@@ -96,6 +93,8 @@ module _ (kind hostSize index : ℕ) (h : List ℕ) where
   unfolding judge
   judge-says size = go (is-header-reflects h size)
     where
-      go : {b : Bool} → Reflects (IsHeader h) b → Judgement (cond b (answer (firstBroken kind hostSize (magicOf h) (fieldsOf h) h) Told) (Refused 4))
-      go (holds r) = answer-says r (first-broken-says kind hostSize h r)
+      go : {b : Bool} → Reflects (IsHeader h) b
+          → Judgement
+          (cond b (answer (firstBroken (Told kind hostSize index h) (fieldsOf h) h) (Told kind hostSize index h)) (Refused 4))
+      go (holds r) = answer-says r (first-broken-says kind hostSize h index r)
       go (fails f) = refuses4 f

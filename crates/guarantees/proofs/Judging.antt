@@ -17,11 +17,11 @@ use Rattle.opening.specs.Opening.{keysOffset, keysSize}
 use Rattle.guarantees.specs.Header.{IsHeader, Line, number, Keeps, FirstBroken, Tells}
 use Rattle.guarantees.specs.Judging.{KeepsRules, JudgesExactly, GivesKeys}
 use Rattle.guarantees.proofs.Reflects.{Reflects, holds, fails, is-false, reflects-eqb}
-use Rattle.guarantees.proofs.RuleLaws.{host-size-reflects}
+use Rattle.guarantees.proofs.RuleReflections.{host-size-reflects}
 use Rattle.guarantees.proofs.SoundLaws.{sound-reflects, data-area-rule-reflects}
 use Rattle.guarantees.proofs.HeaderLaws.{is-header-reflects}
-use Rattle.guarantees.proofs.CandidateLaws.{layout-tells}
-use Rattle.guarantees.proofs.JudgementLaws.{Told, Judgement, accepts, refuses, refuses4, judge-says}
+use Rattle.guarantees.proofs.ToldLaws.{Told, layout-tells}
+use Rattle.guarantees.proofs.JudgementLaws.{Judgement, accepts, refuses, refuses4, judge-says}
 
 true-exactly : {P : Type 0} {b : Bool} → Reflects P b → (b ≡ true) ↔ P
 true-exactly (holds p) = (λ e. p, λ q. refl)
@@ -33,7 +33,7 @@ keeps-rules =
       standardKind = refl;
       hiddenKind = refl;
       hostSizes = λ hostSize. true-exactly (host-size-reflects hostSize);
-      dataAreas = λ kind hostSize start size. true-exactly (data-area-rule-reflects kind hostSize start size);
+      dataAreas = λ layout. true-exactly (data-area-rule-reflects layout);
       layouts = λ layout. true-exactly (sound-reflects layout);
     }
 

@@ -12,6 +12,7 @@ pub mod DecimalLaws
 pub mod ExtentLaws
 pub mod Extents
 pub mod FoundLaws
+pub mod FirstAcceptedLaws
 pub mod FromHeaders
 pub mod GatherLaws
 pub mod HeaderLaws
@@ -30,17 +31,17 @@ pub mod Numbers
 pub mod Opening
 pub mod ProtectedLaws
 pub mod Reflects
-pub mod RuleLaws
+pub mod RuleReflections
 pub mod RunLaws
 pub mod SameLaws
 pub mod SameReplyLaws
-pub mod SearchLaws
 pub mod SectorLaws
 pub mod SectorMap
 pub mod SoundLaws
 pub mod StateLaws
 pub mod StepLaws
 pub mod TestCases
+pub mod ToldLaws
 pub mod TouchLaws
 pub mod ViewLaws
 pub mod Views

@@ -7,12 +7,15 @@ use mathlib.Core.Logic.{_⊎_, inl, inr, ⊎-elim}
 use mathlib.Core.Bool.{Bool, true, _&&_, cond, and-assoc}
 use mathlib.Core.List.{List}
 use lib.Dec.{eqb}
-use Rattle.layout.specs.Rules.{standard, hidden, startRule, endRule, dataAreaRule}
+use Rattle.layout.specs.Rules.{standard, hidden, placeRule, dataAreaRule}
 use Rattle.header.specs.Bytes.{part, allZero}
-use Rattle.header.specs.Header.{fieldsOf, versionRule, reservedRule, flagsRule, sectorSizeRule, hiddenSizeRule, areaRule}
+use Rattle.layout.specs.declared.Layout.{Layout}
+use Rattle.header.specs.Header.{fieldsOf, acceptedLayout}
+use Rattle.header.specs.Header.{versionRule, reservedRule, flagsRule, sectorSizeRule, hiddenSizeRule, areaRule}
 use Rattle.guarantees.specs.Header.{KnownKind, IsVera, IsTrue, AllZero, version, reserved, flags, sectorSize, hiddenSize, dataArea, DataArea, Keeps}
 use Rattle.guarantees.proofs.Reflects.{Reflects, holds, fails, reflects-map, reflects-and, reflects-not, reflects-eqb, reflects-leb}
 use Rattle.guarantees.proofs.HeaderLaws.{MagicIs, spellsVera, spellsTrue, spellsNeither, all-zero-reflects}
+use Rattle.guarantees.proofs.ToldLaws.{Told, layout-tells, tells-area}
 
 -- a test by the kind, which no other kind passes
 kind-reflects : (kind : ℕ) {P Q : Type 0} {a b : Bool} → Reflects P a → Reflects Q b
@@ -24,10 +27,6 @@ kind-reflects kind = go (reflects-eqb kind standard) (reflects-eqb kind hidden)
     go (holds e) t r s = reflects-map (λ p. (inl e, (λ u. p, λ u. absurd (omega arith)))) (λ k. k .1 .0 e) r
     go (fails f) (holds e) r s = reflects-map (λ q. (inr e, (λ u. absurd (f u), λ u. q))) (λ k. k .1 .1 e) s
     go (fails f) (fails g) r s = fails (λ k. ⊎-elim f g (k .0))
-
--- .. where the kind is known
-known-reflects : {kind : ℕ} {P : Type 0} {b : Bool} → KnownKind kind → Reflects (KnownKind kind × P) b → Reflects P b
-known-reflects known = reflects-map (λ p. p .1) (λ p. (known, p))
 
 four-or-five : (n : ℕ) → 4 ≤ n → n ≤ 5 → (n ≡ 4) ⊎ (n ≡ 5)
 four-or-five n l m = go (reflects-eqb n 4)
@@ -76,35 +75,41 @@ module _ (kind hostSize : ℕ) (h : List ℕ) where
       let zero = reflects-eqb (fieldsOf h .«hidden_size») 0 in
       rw and-assoc (kind-reflects kind zero (reflects-and (reflects-not zero) (reflects-eqb (fieldsOf h .«hidden_size») (fieldsOf h .«data_size»))))
 
--- the last line, over its numbers: no other kind passes it
-pub area-reflects : (kind hostSize start size encryptedSize : ℕ)
-    → Reflects (KnownKind kind × DataArea kind hostSize start size encryptedSize) (areaRule kind hostSize start size encryptedSize)
-unfolding areaRule dataAreaRule startRule endRule
-area-reflects kind hostSize start size encryptedSize =
+-- the last line, of a layout: no other kind passes it
+pub area-reflects : (layout : Layout) (encryptedSize : ℕ)
+    → Reflects (KnownKind (layout .kind) × DataArea layout encryptedSize) (areaRule layout encryptedSize)
+unfolding areaRule dataAreaRule placeRule
+area-reflects layout encryptedSize =
+    let start = layout .«data_start» in
+    let size = layout .«data_size» in
+    let ends = reflects-leb (start + size + 131072) (layout .«host_size») in
     reflects-map
-    (λ p. (
-      p .1 .0 .1 .0,
+    (λ p.
+    let place = p .1 .1 in (
+      place .0,
       record {
         encrypted = p .0;
-        atLeast = p .1 .0 .0 .0 .0;
-        sizeMultiple = p .1 .0 .0 .0 .1;
-        startMultiple = p .1 .0 .0 .1;
-        standardStart = p .1 .0 .1 .1 .0;
-        hiddenStart = p .1 .0 .1 .1 .1;
-        fits = p .1 .1;
+        atLeast = p .1 .0 .0 .0;
+        sizeMultiple = p .1 .0 .0 .1;
+        startMultiple = p .1 .0 .1;
+        standardStart = λ e. place .1 .0 e .0;
+        hiddenStart = λ e. place .1 .1 e .0;
+        fits = ⊎-elim (λ e. place .1 .0 e .1) (λ e. place .1 .1 e .1) (place .0);
       },
     ))
     (λ q.
-    let r = q .1 in
-    (r .encrypted, ((((r .atLeast, r .sizeMultiple), r .startMultiple), (q .0, (r .standardStart, r .hiddenStart))), r .fits)))
+    let r = q .1 in (
+      r .encrypted,
+      (((r .atLeast, r .sizeMultiple), r .startMultiple), (q .0, (λ e. (r .standardStart e, r .fits), λ e. (r .hiddenStart e, r .fits)))),
+    ))
     (reflects-and (reflects-eqb encryptedSize size)
-    (reflects-and
     (reflects-and (reflects-and (reflects-and (reflects-leb 512 size) (reflects-eqb (size % 512) 0)) (reflects-eqb (start % 512) 0))
-    (kind-reflects kind (reflects-eqb start 131072) (reflects-leb 131072 start)))
-    (reflects-leb (start + size + 131072) hostSize)))
+    (kind-reflects (layout .kind) (reflects-and (reflects-eqb start 131072) ends) (reflects-and (reflects-leb 131072 start) ends))))
 
-pub data-area-reflects : (kind hostSize : ℕ) (h : List ℕ) → KnownKind kind
-    → Reflects (Keeps dataArea kind hostSize h) (areaRule kind hostSize (fieldsOf h .«data_start») (fieldsOf h .«data_size») (fieldsOf h .«encrypted_size»))
-unfolding fieldsOf Keeps
-data-area-reflects kind hostSize h either =
-    known-reflects either (area-reflects kind hostSize (fieldsOf h .«data_start») (fieldsOf h .«data_size») (fieldsOf h .«encrypted_size»))
+pub data-area-reflects : (kind hostSize index : ℕ) (h : List ℕ) → KnownKind kind
+    → Reflects (Keeps dataArea kind hostSize h) (areaRule (Told kind hostSize index h) (fieldsOf h .«encrypted_size»))
+unfolding fieldsOf acceptedLayout Keeps
+data-area-reflects kind hostSize index h known =
+    let told = layout-tells kind hostSize index h in
+    reflects-map (λ p other layout tells. tells-area told tells (p .1)) (λ keeps. (known, keeps index (Told kind hostSize index h) told))
+    (area-reflects (Told kind hostSize index h) (fieldsOf h .«encrypted_size»))

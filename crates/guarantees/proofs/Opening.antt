@@ -13,8 +13,8 @@ use Rattle.opening.specs.Opening.{judgements, searchFrom, opened}
 use Rattle.answers.specs.declared.Numbered.the-variants.{Number}
 use Rattle.guarantees.specs.Opening.{Lengths, Codes, HostSize, Allowed, OpensExactlyWhen, LocatesHeaders}
 use Rattle.guarantees.proofs.Reflects.{Reflects, holds, fails, is-true, is-false}
-use Rattle.guarantees.proofs.RuleLaws.{lengths-reflects, code-reflects, codes-reflects, host-size-reflects}
-use Rattle.guarantees.proofs.SearchLaws.{Found, search-says}
+use Rattle.guarantees.proofs.RuleReflections.{lengths-reflects, code-reflects, codes-reflects, host-size-reflects}
+use Rattle.guarantees.proofs.FirstAcceptedLaws.{Found, search-says}
 use Rattle.guarantees.proofs.FoundLaws.{refused-is-not-accepted, found-accepts, found-only-accepts, found-refuses, found-refuses4, found-one}
 
 module _ (candidates codes : List ℕ) (hostSize : ℕ) where

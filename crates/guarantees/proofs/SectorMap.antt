@@ -58,11 +58,11 @@ accepted-sound : (candidates codes : List ℕ) (hostSize i : ℕ) (layout : Layo
     → TellsAt candidates codes hostSize i layout → Sound layout
 unfolding Keeps
 accepted-sound candidates codes hostSize i layout size accepted told =
-    let area = accepted .keeps dataArea in
+    let area = accepted .keeps dataArea i layout told in
     record {
       size = rw (told .hostSizeTold) size;
       known = rw (told .kindTold) (kind-of-says (getD codes i 0));
-      area = rw (told .hostSizeTold, told .kindTold, told .startTold, told .sizeTold) (rw (area .encrypted) at area);
+      area = rw (area .encrypted) at area;
     }
 
 pub opened-sound : OpenedIsSound

@@ -63,16 +63,28 @@ number sectorSize = 8
 number hiddenSize = 9
 number dataArea = 10
 
+-- what a layout tells of a header, field by field: for the kind of its location, a host size and the candidate's index
+pub record Tells (kind hostSize index : ℕ) (h : List ℕ) (layout : Layout) : Type 0 where
+  pub hostSizeTold : layout .«host_size» ≡ hostSize
+  pub kindTold : layout .kind ≡ kind
+  pub veraTold : IsVera h → layout .magic ≡ 0
+  pub trueTold : IsTrue h → layout .magic ≡ 1
+  pub versionTold : layout .version ≡ fieldsAt h .version
+  pub minProgramVersionTold : layout .«min_program_version» ≡ fieldsAt h .«min_program_version»
+  pub startTold : layout .«data_start» ≡ fieldsAt h .«data_start»
+  pub sizeTold : layout .«data_size» ≡ fieldsAt h .«data_size»
+  pub candidateTold : layout .candidate ≡ index
+
 -- the last line: a data area of whole sectors and at least one, all of it encrypted, that starts where its kind may and leaves the backup
 -- headers free; the sums are of whole numbers
-pub record DataArea (kind hostSize start size encryptedSize : ℕ) : Type 0 where
-  pub atLeast : 512 ≤ size
-  pub sizeMultiple : size % 512 ≡ 0
-  pub startMultiple : start % 512 ≡ 0
-  pub encrypted : encryptedSize ≡ size
-  pub standardStart : kind ≡ standard → start ≡ 131072
-  pub hiddenStart : kind ≡ hidden → 131072 ≤ start
-  pub fits : start + size + 131072 ≤ hostSize
+pub record DataArea (layout : Layout) (encryptedSize : ℕ) : Type 0 where
+  pub atLeast : 512 ≤ layout .«data_size»
+  pub sizeMultiple : layout .«data_size» % 512 ≡ 0
+  pub startMultiple : layout .«data_start» % 512 ≡ 0
+  pub encrypted : encryptedSize ≡ layout .«data_size»
+  pub standardStart : layout .kind ≡ standard → layout .«data_start» ≡ 131072
+  pub hiddenStart : layout .kind ≡ hidden → 131072 ≤ layout .«data_start»
+  pub fits : layout .«data_start» + layout .«data_size» + 131072 ≤ layout .«host_size»
 
 -- what it is for a header to keep a line, for the kind of its location and a host size
 unfoldable pub Keeps : Line → ℕ → ℕ → List ℕ → Type 0
@@ -87,21 +99,9 @@ Keeps hiddenSize kind hostSize h =
     × ((kind ≡ standard → fieldsAt h .«hidden_size» ≡ 0)
     × (kind ≡ hidden → (fieldsAt h .«hidden_size» ≡ 0 → ⊥) × (fieldsAt h .«hidden_size» ≡ fieldsAt h .«data_size»)))
 Keeps dataArea kind hostSize h =
-    DataArea kind hostSize (fieldsAt h .«data_start») (fieldsAt h .«data_size») (fieldsAt h .«encrypted_size»)
+    (index : ℕ) (layout : Layout) → Tells kind hostSize index h layout → DataArea layout (fieldsAt h .«encrypted_size»)
 
 -- the first line that a header breaks: those before it are kept
 pub record FirstBroken (line : Line) (kind hostSize : ℕ) (h : List ℕ) : Type 0 where
   pub broken : Keeps line kind hostSize h → ⊥
   pub earlier : (other : Line) → number other < number line → Keeps other kind hostSize h
-
--- what a layout tells of a header, field by field: for the kind of its location, a host size and the candidate's index
-pub record Tells (kind hostSize index : ℕ) (h : List ℕ) (layout : Layout) : Type 0 where
-  pub hostSizeTold : layout .«host_size» ≡ hostSize
-  pub kindTold : layout .kind ≡ kind
-  pub veraTold : IsVera h → layout .magic ≡ 0
-  pub trueTold : IsTrue h → layout .magic ≡ 1
-  pub versionTold : layout .version ≡ fieldsAt h .version
-  pub minProgramVersionTold : layout .«min_program_version» ≡ fieldsAt h .«min_program_version»
-  pub startTold : layout .«data_start» ≡ fieldsAt h .«data_start»
-  pub sizeTold : layout .«data_size» ≡ fieldsAt h .«data_size»
-  pub candidateTold : layout .candidate ≡ index

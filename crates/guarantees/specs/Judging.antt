@@ -22,8 +22,7 @@ pub record KeepsRules : Type 0 where
   pub standardKind : standard ≡ 0
   pub hiddenKind : hidden ≡ 1
   pub hostSizes : (hostSize : ℕ) → (hostSizeRule hostSize ≡ true) ↔ HostSize hostSize
-  pub dataAreas : (kind hostSize start size : ℕ)
-      → (dataAreaRule kind hostSize start size ≡ true) ↔ (KnownKind kind × DataArea kind hostSize start size size)
+  pub dataAreas : (layout : Layout) → (dataAreaRule layout ≡ true) ↔ (KnownKind (layout .kind) × DataArea layout (layout .«data_size»))
   pub layouts : (layout : Layout) → (sound layout ≡ true) ↔ Sound layout
 
 -- the judgement of one candidate by itself, for any bytes, any kind, any host size and any index

@@ -18,7 +18,7 @@ use Rattle.guarantees.specs.Opening.{HostSize}
 pub record Sound (layout : Layout) : Type 0 where
   pub size : HostSize (layout .«host_size»)
   pub known : KnownKind (layout .kind)
-  pub area : DataArea (layout .kind) (layout .«host_size») (layout .«data_start») (layout .«data_size») (layout .«data_size»)
+  pub area : DataArea layout (layout .«data_size»)
 
 -- a host sector of the data area: its 512 bytes lie from O on, and end by O+V
 pub record InArea (layout : Layout) (host : ℕ) : Type 0 where

@@ -27,8 +27,9 @@ pub judge-accepted : (kind hostSize index : ℕ) (h : List ℕ) (layout : Layout
     → acceptedLayout kind hostSize index (magicOf h) (fieldsOf h) ≡ layout
 unfolding judge answer
 judge-accepted kind hostSize index h layout e =
-    chosen (isHeader h) (eqb (firstBroken kind hostSize (magicOf h) (fieldsOf h) h) 0)
-    (acceptedLayout kind hostSize index (magicOf h) (fieldsOf h)) layout (firstBroken kind hostSize (magicOf h) (fieldsOf h) h) 4 e
+    let told = acceptedLayout kind hostSize index (magicOf h) (fieldsOf h) in
+    let broken = firstBroken told (fieldsOf h) h in
+    chosen (isHeader h) (eqb broken 0) told layout broken 4 e
 
 pub judge-candidate : (kind hostSize index : ℕ) (h : List ℕ) (layout : Layout) → judge kind hostSize index h ≡ Accepted layout → index ≡ layout .candidate
 unfolding acceptedLayout

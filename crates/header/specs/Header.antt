@@ -80,21 +80,7 @@ unfoldable pub hiddenSizeRule : ℕ → ℕ → ℕ → Bool
 hiddenSizeRule kind hiddenSize size =
     cond (eqb kind standard) (eqb hiddenSize 0) (eqb kind hidden && not (eqb hiddenSize 0) && eqb hiddenSize size)
 
--- line 10, the data area, with the encrypted size E equal to V
-unfoldable pub areaRule : ℕ → ℕ → ℕ → ℕ → ℕ → Bool
-areaRule kind hostSize start size encryptedSize = eqb encryptedSize size && dataAreaRule kind hostSize start size
-
--- the first line that a header breaks, 0 where it keeps them all: for a kind and a host size
-unfoldable pub firstBroken : ℕ → ℕ → ℕ → Fields → List ℕ → ℕ
-firstBroken kind hostSize magic f h =
-    line 5 (versionRule magic (f .version))
-    (line 6 (reservedRule magic (f .flags) h)
-    (line 7 (flagsRule (f .flags))
-    (line 8 (sectorSizeRule (f .«sector_size»))
-    (line 9 (hiddenSizeRule kind (f .«hidden_size») (f .«data_size»))
-    (line 10 (areaRule kind hostSize (f .«data_start») (f .«data_size») (f .«encrypted_size»)) 0)))))
-
--- what an accepted candidate tells: the layout, with the candidate's index
+-- the layout that a header tells, which line 10 judges: for a kind, a host size and the candidate's index
 unfoldable pub acceptedLayout : ℕ → ℕ → ℕ → ℕ → Fields → Layout
 acceptedLayout kind hostSize index magic f =
     record {
@@ -108,6 +94,20 @@ acceptedLayout kind hostSize index magic f =
       candidate = index;
     }
 
+-- line 10, the data area, with the encrypted size E equal to V
+unfoldable pub areaRule : Layout → ℕ → Bool
+areaRule layout encryptedSize = eqb encryptedSize (layout .«data_size») && dataAreaRule layout
+
+-- the first line that a header breaks, 0 where it keeps them all: for the layout that it tells
+unfoldable pub firstBroken : Layout → Fields → List ℕ → ℕ
+firstBroken layout f h =
+    line 5 (versionRule (layout .magic) (f .version))
+    (line 6 (reservedRule (layout .magic) (f .flags) h)
+    (line 7 (flagsRule (f .flags))
+    (line 8 (sectorSizeRule (f .«sector_size»))
+    (line 9 (hiddenSizeRule (layout .kind) (f .«hidden_size») (f .«data_size»))
+    (line 10 (areaRule layout (f .«encrypted_size»)) 0)))))
+
 -- the refusal by a broken line's number, or the layout where that is 0
 unfoldable pub answer : ℕ → Layout → Opened
 answer number layout = cond (eqb number 0) (Accepted layout) (Refused number)
@@ -115,6 +115,5 @@ answer number layout = cond (eqb number 0) (Accepted layout) (Refused number)
 -- the judgement of one candidate: 4 where it is no header, else by the first line that it breaks
 unfoldable pub judge : ℕ → ℕ → ℕ → List ℕ → Opened
 judge kind hostSize index h =
-    cond (isHeader h)
-    (answer (firstBroken kind hostSize (magicOf h) (fieldsOf h) h) (acceptedLayout kind hostSize index (magicOf h) (fieldsOf h)))
-    (Refused 4)
+    let layout = acceptedLayout kind hostSize index (magicOf h) (fieldsOf h) in
+    cond (isHeader h) (answer (firstBroken layout (fieldsOf h) h) layout) (Refused 4)

@@ -79,11 +79,12 @@ pub fn judge(candidate: &[u8], kind: u64, host_size: u64, index: u64) -> Opened
         return Opened::Refused(4);
     }
     let fields = read_fields(candidate);
-    let broken = first_broken(candidate, magic, fields, kind, host_size);
+    let layout = accepted_layout(fields, magic, kind, host_size, index);
+    let broken = first_broken(candidate, fields, layout);
     if broken != 0 {
         return Opened::Refused(broken);
     }
-    Opened::Accepted(accepted_layout(fields, magic, kind, host_size, index))
+    Opened::Accepted(layout)
 }
 
 fn magic_of(candidate: &[u8]) -> u64
@@ -157,15 +158,15 @@ fn read_fields(candidate: &[u8]) -> Fields
     }
 }
 
-// The number of the first rule that a header breaks, or 0.
-fn first_broken(candidate: &[u8], magic: u64, fields: Fields, kind: u64, host_size: u64) -> u8
+// The number of the first rule that a header breaks, or 0, for the layout that it tells.
+fn first_broken(candidate: &[u8], fields: Fields, layout: Layout) -> u8
     requires { ⌜ length (now candidate) ≡ 512 ⌝ }
-    ensures { λ r. ⌜ r ≡ firstBroken kind «host_size» magic fields (now (candidate .entry)) ⌝ }
+    ensures { λ r. ⌜ r ≡ firstBroken layout fields (now (candidate .entry)) ⌝ }
 {
-    if !keeps_version(magic, fields.version) {
+    if !keeps_version(layout.magic, fields.version) {
         return 5;
     }
-    if !keeps_reserved(candidate, magic, fields.flags) {
+    if !keeps_reserved(candidate, layout.magic, fields.flags) {
         return 6;
     }
     if fields.flags % 4 != 0 {
@@ -174,10 +175,10 @@ fn first_broken(candidate: &[u8], magic: u64, fields: Fields, kind: u64, host_si
     if fields.sector_size != 512 {
         return 8;
     }
-    if !keeps_hidden_size(kind, fields.hidden_size, fields.data_size) {
+    if !keeps_hidden_size(layout.kind, fields.hidden_size, fields.data_size) {
         return 9;
     }
-    if !keeps_area(fields, kind, host_size) {
+    if !keeps_area(layout, fields.encrypted_size) {
         return 10;
     }
     0
@@ -240,13 +241,13 @@ fn keeps_hidden_size(kind: u64, hidden_size: u64, data_size: u64) -> bool
     hidden_size == data_size
 }
 
-fn keeps_area(fields: Fields, kind: u64, host_size: u64) -> bool
-    ensures { λ r. ⌜ r ≡ areaRule kind «host_size» (fields .«data_start») (fields .«data_size») (fields .«encrypted_size») ⌝ }
+fn keeps_area(layout: Layout, encrypted_size: u64) -> bool
+    ensures { λ r. ⌜ r ≡ areaRule layout «encrypted_size» ⌝ }
 {
-    if fields.encrypted_size != fields.data_size {
+    if encrypted_size != layout.data_size {
         return false;
     }
-    layout::is_data_area(kind, host_size, fields.data_start, fields.data_size)
+    layout::is_data_area(layout)
 }
 
 fn accepted_layout(fields: Fields, magic: u64, kind: u64, host_size: u64, index: u64) -> Layout

@@ -1,14 +1,14 @@
 -- What the rules of `specs/Rules.antt` say in numbers, for crates above.
 -- Assumes nothing.
-use Prim.Native.Nat.{ℕ, _+_, _%_, _≤_}
+use Prim.Native.Nat.{ℕ, _+_, _%_, _≤_, _<_}
 use native.Mathlib.Omega.{arith}
-use mathlib.Core.Path.{_≡_, refl}
-use mathlib.Core.Bool.{Bool, true, false, _&&_}
-use borrow.Author.Tests.{leb-true}
+use mathlib.Core.Path.{_≡_, refl, sym, _∙_}
+use mathlib.Core.Bool.{Bool, true, false, _&&_, cond, and-false}
+use borrow.Author.Tests.{leb-true, lt-leb}
 use lib.Dec.{leb, eqb}
 use Rattle.layout.specs.Soundness.{sound}
 use Rattle.layout.specs.declared.Layout.{Layout}
-use Rattle.layout.specs.Rules.{sectorBytes, headersSize, minHostSize, maxHostSize, hostSizeRule, startRule, endRule, dataAreaRule}
+use Rattle.layout.specs.Rules.{standard, hidden, sectorBytes, headersSize, minHostSize, maxHostSize, hostSizeRule, placeRule, dataAreaRule}
 
 pub and-true-left : (a b : Bool) → (a && b) ≡ true → a ≡ true
 and-true-left true b h = refl
@@ -31,29 +31,51 @@ unfolding hostSizeRule
 host-size-most size h =
     leb-true size maxHostSize (and-true-right (eqb (size % sectorBytes) 0 && leb minHostSize size) (leb size maxHostSize) h)
 
+-- a place whose end is wrong is none, whatever the kind and the start
+no-end : (standard start hidden later : Bool) → cond standard (start && false) (hidden && (later && false)) ≡ false
+no-end true start hidden later = and-false start
+no-end false start true later = and-false later
+no-end false start false later = refl
+
+right-end : (standard start hidden later ends : Bool) → cond standard (start && ends) (hidden && (later && ends)) ≡ true → ends ≡ true
+right-end standard start hidden later true kept = refl
+right-end standard start hidden later false kept = sym (no-end standard start hidden later) ∙ kept
+
+module _ (layout : Layout) where
+  -- an area that runs into the backups has no place
+  pub past-backups : layout .«host_size» < layout .«data_start» + layout .«data_size» + headersSize → placeRule layout ≡ false
+  unfolding placeRule
+  past-backups past =
+      let start = layout .«data_start» in
+      rw (lt-leb (start + layout .«data_size» + headersSize) (layout .«host_size») past)
+      (no-end (eqb (layout .kind) standard) (eqb start headersSize) (eqb (layout .kind) hidden) (leb headersSize start))
+
+  -- so one that has its place ends before them
+  pub place-ends : placeRule layout ≡ true → layout .«data_start» + layout .«data_size» + headersSize ≤ layout .«host_size»
+  unfolding placeRule
+  place-ends kept =
+      let start = layout .«data_start» in
+      let ends = leb (start + layout .«data_size» + headersSize) (layout .«host_size») in
+      leb-true (start + layout .«data_size» + headersSize) (layout .«host_size»)
+      (right-end (eqb (layout .kind) standard) (eqb start headersSize) (eqb (layout .kind) hidden) (leb headersSize start) ends kept)
+
 module _ (layout : Layout) (kept : sound layout ≡ true) where
   pub sound-host-size : hostSizeRule (layout .«host_size») ≡ true
   unfolding sound
-  sound-host-size =
-      and-true-left (hostSizeRule (layout .«host_size»))
-      (dataAreaRule (layout .kind) (layout .«host_size») (layout .«data_start») (layout .«data_size»)) kept
+  sound-host-size = and-true-left (hostSizeRule (layout .«host_size»)) (dataAreaRule layout) kept
 
-  pub sound-data-area : dataAreaRule (layout .kind) (layout .«host_size») (layout .«data_start») (layout .«data_size») ≡ true
+  pub sound-data-area : dataAreaRule layout ≡ true
   unfolding sound
-  sound-data-area =
-      and-true-right (hostSizeRule (layout .«host_size»))
-      (dataAreaRule (layout .kind) (layout .«host_size») (layout .«data_start») (layout .«data_size»)) kept
+  sound-data-area = and-true-right (hostSizeRule (layout .«host_size»)) (dataAreaRule layout) kept
 
   -- the data area ends before the backup headers
   pub sound-ends : layout .«data_start» + layout .«data_size» + headersSize ≤ layout .«host_size»
-  unfolding dataAreaRule endRule
+  unfolding dataAreaRule
   sound-ends =
       let start = layout .«data_start» in
       let size = layout .«data_size» in
-      leb-true (start + size + headersSize) (layout .«host_size»)
-      (and-true-right
-      (leb sectorBytes size && eqb (size % sectorBytes) 0 && eqb (start % sectorBytes) 0 && startRule (layout .kind) start)
-      (endRule (layout .«host_size») start size) sound-data-area)
+      place-ends layout
+      (and-true-right (leb sectorBytes size && eqb (size % sectorBytes) 0 && eqb (start % sectorBytes) 0) (placeRule layout) sound-data-area)
 
   -- so its end is far below 2^64
   pub sound-end-le : layout .«data_start» + layout .«data_size» ≤ maxHostSize

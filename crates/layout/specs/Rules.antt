@@ -3,6 +3,7 @@
 use Prim.Native.Nat.{ℕ, _+_, _%_, _^_}
 use mathlib.Core.Bool.{Bool, _&&_, cond}
 use lib.Dec.{leb, eqb}
+use Rattle.layout.specs.declared.Layout.{Layout}
 
 -- a sector
 abbrev pub sectorBytes : ℕ
@@ -32,15 +33,17 @@ hidden = 1
 unfoldable pub hostSizeRule : ℕ → Bool
 hostSizeRule hostSize = eqb (hostSize % sectorBytes) 0 && leb minHostSize hostSize && leb hostSize maxHostSize
 
--- where a data area may start: at 131,072 for a standard volume, there or later for a hidden one; no other kind has a start
-unfoldable pub startRule : ℕ → ℕ → Bool
-startRule kind start = cond (eqb kind standard) (eqb start headersSize) (eqb kind hidden && leb headersSize start)
+-- where a data area may lie, by its kind: a standard volume's starts right behind the headers and a hidden one's there or later, either
+-- ends before the backups (O+V+131,072 is no more than S, as whole numbers), and no other kind has a place
+unfoldable pub placeRule : Layout → Bool
+placeRule layout =
+    let start = layout .«data_start» in
+    let end = layout .«data_start» + layout .«data_size» in
+    cond (eqb (layout .kind) standard) (eqb start headersSize && leb (end + headersSize) (layout .«host_size»))
+    (eqb (layout .kind) hidden && (leb headersSize start && leb (end + headersSize) (layout .«host_size»)))
 
--- the data area ends before the backup headers: O+V+131,072 is no more than S, as whole numbers
-unfoldable pub endRule : ℕ → ℕ → ℕ → Bool
-endRule hostSize start size = leb (start + size + headersSize) hostSize
-
--- line 10 of a header's rules (RULES.md, Header bytes) with E taken as V: for a kind, S, O and V
-unfoldable pub dataAreaRule : ℕ → ℕ → ℕ → ℕ → Bool
-dataAreaRule kind hostSize start size =
-    leb sectorBytes size && eqb (size % sectorBytes) 0 && eqb (start % sectorBytes) 0 && startRule kind start && endRule hostSize start size
+-- line 10 of a header's rules (RULES.md, Header bytes) with E taken as V: whole sectors and at least one, from a sector's start, in their place
+unfoldable pub dataAreaRule : Layout → Bool
+dataAreaRule layout =
+    leb sectorBytes (layout .«data_size») && eqb (layout .«data_size» % sectorBytes) 0 && eqb (layout .«data_start» % sectorBytes) 0
+    && placeRule layout

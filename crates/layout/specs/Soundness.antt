@@ -5,5 +5,4 @@ use Rattle.layout.specs.Rules.{hostSizeRule, dataAreaRule}
 
 -- sound: S and the data area keep their rules, with E taken as V; its magic, versions and candidate are not judged
 unfoldable pub sound : Layout → Bool
-sound layout =
-    hostSizeRule (layout .«host_size») && dataAreaRule (layout .kind) (layout .«host_size») (layout .«data_start») (layout .«data_size»)
+sound layout = hostSizeRule (layout .«host_size») && dataAreaRule layout

@@ -2,7 +2,7 @@
 // and a data area keep. Assumes nothing; no function has a `requires`.
 ghost use mathlib.Core.Path.{_≡_};
 ghost use Rattle.layout.specs.Opened.{openedRefusal};
-ghost use Rattle.layout.specs.Rules.{hostSizeRule, startRule, endRule, dataAreaRule};
+ghost use Rattle.layout.specs.Rules.{hostSizeRule, placeRule, dataAreaRule};
 ghost use Rattle.layout.specs.Soundness.{sound};
 
 // The kinds of a volume, as a layout has them.
@@ -62,23 +62,20 @@ pub fn is_host_size(host_size: u64) -> bool
     host_size <= MAX_HOST_SIZE
 }
 
-// Whether a volume of this kind may have this data area in a host of this size.
-pub fn is_data_area(kind: u64, host_size: u64, data_start: u64, data_size: u64) -> bool
-    ensures { λ r. ⌜ r ≡ dataAreaRule kind «host_size» «data_start» «data_size» ⌝ }
+// Whether a layout's data area is one that its kind may have in its host.
+pub fn is_data_area(layout: Layout) -> bool
+    ensures { λ r. ⌜ r ≡ dataAreaRule layout ⌝ }
 {
-    if data_size < SECTOR_SIZE {
+    if layout.data_size < SECTOR_SIZE {
         return false;
     }
-    if data_size % SECTOR_SIZE != 0 {
+    if layout.data_size % SECTOR_SIZE != 0 {
         return false;
     }
-    if data_start % SECTOR_SIZE != 0 {
+    if layout.data_start % SECTOR_SIZE != 0 {
         return false;
     }
-    if !starts_after_headers(kind, data_start) {
-        return false;
-    }
-    ends_before_backups(host_size, data_start, data_size)
+    is_in_place(layout)
 }
 
 // Whether a layout keeps the rules for its host's size and its data area.
@@ -88,36 +85,33 @@ pub fn is_sound(layout: Layout) -> bool
     if !is_host_size(layout.host_size) {
         return false;
     }
-    is_data_area(
-        layout.kind,
-        layout.host_size,
-        layout.data_start,
-        layout.data_size,
-    )
+    is_data_area(layout)
 }
 
-fn starts_after_headers(kind: u64, data_start: u64) -> bool
-    ensures { λ r. ⌜ r ≡ startRule kind «data_start» ⌝ }
+// Whether the data area lies where its kind's may. A sum past 2^64 wraps to less than either number.
+fn is_in_place(layout: Layout) -> bool
+    ensures { λ r. ⌜ r ≡ placeRule layout ⌝ }
 {
-    if kind == STANDARD {
-        return data_start == HEADERS_SIZE;
-    }
-    if kind == HIDDEN {
-        return HEADERS_SIZE <= data_start;
-    }
-    false
-}
-
-// A sum past 2^64 wraps to less than either number.
-fn ends_before_backups(host_size: u64, data_start: u64, data_size: u64) -> bool
-    ensures { λ r. ⌜ r ≡ endRule «host_size» «data_start» «data_size» ⌝ }
-{
-    if host_size < HEADERS_SIZE {
+    let start = layout.data_start;
+    let end = std::num::wrapping_add_u64(start, layout.data_size);
+    if end < start {
         return false;
     }
-    let end = std::num::wrapping_add_u64(data_start, data_size);
-    if end < data_start {
+    if layout.host_size < HEADERS_SIZE {
         return false;
     }
-    end <= host_size - HEADERS_SIZE
+    let backups = layout.host_size - HEADERS_SIZE;
+    if layout.kind == STANDARD {
+        if start != HEADERS_SIZE {
+            return false;
+        }
+        return end <= backups;
+    }
+    if layout.kind != HIDDEN {
+        return false;
+    }
+    if start < HEADERS_SIZE {
+        return false;
+    }
+    end <= backups
 }

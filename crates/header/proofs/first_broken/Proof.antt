@@ -12,10 +12,10 @@ use Rattle.header.proofs.first_broken.Statement.{statement}
 use Rattle.header.proofs.first_broken.Tie as tie
 
 -- what each test that was passed tells
-kept-5 : (c : tie.Else1) → versionRule (c .before .before .before .args .magic) (c .before .before .before .args .fields .version) ≡ true
+kept-5 : (c : tie.Else1) → versionRule (c .before .before .before .args .layout .magic) (c .before .before .before .args .fields .version) ≡ true
 kept-5 c = sym (c .before .keeps-version .ensures) ∙ not-false _ (c .if1 .left)
 
-kept-6 : (c : tie.Else2) → reservedRule (c .before .before .before .before .before .args .magic) (c .before .before .before .before .before .args .fields .flags) (now (c .before .before .before .before .before .args .candidate)) ≡ true
+kept-6 : (c : tie.Else2) → reservedRule (c .before .before .before .before .before .args .layout .magic) (c .before .before .before .before .before .args .fields .flags) (now (c .before .before .before .before .before .args .candidate)) ≡ true
 kept-6 c = sym (c .before .keeps-reserved .ensures) ∙ not-false _ (c .if2 .left)
 
 kept-7 : (c : tie.Else3) → eqb (c .before .before .before .before .before .before .before .args .fields .flags % 4) 0 ≡ true
@@ -24,7 +24,7 @@ kept-7 c = eq-eqb _ _ (c .if3 .left)
 kept-8 : (c : tie.Else4) → eqb (c .before .before .before .before .before .before .before .before .before .args .fields .«sector_size») 512 ≡ true
 kept-8 c = eq-eqb _ _ (c .if4 .left)
 
-kept-9 : (c : tie.Else5) → hiddenSizeRule (c .before .before .before .before .before .before .before .before .before .before .before .args .kind) (c .before .before .before .before .before .before .before .before .before .before .before .args .fields .«hidden_size») (c .before .before .before .before .before .before .before .before .before .before .before .args .fields .«data_size») ≡ true
+kept-9 : (c : tie.Else5) → hiddenSizeRule (c .before .before .before .before .before .before .before .before .before .before .before .args .layout .kind) (c .before .before .before .before .before .before .before .before .before .before .before .args .fields .«hidden_size») (c .before .before .before .before .before .before .before .before .before .before .before .args .fields .«data_size») ≡ true
 kept-9 c = sym (c .before .keeps-hidden-size .ensures) ∙ not-false _ (c .if5 .left)
 
 keeps-version-requires : tie.Need-keeps-version-requires

@@ -34,37 +34,44 @@ returns-3 c =
 read-fields-requires : tie.Need-read-fields-requires
 read-fields-requires c κs = search needs
 
+accepted-layout-requires : tie.Need-accepted-layout-requires
+accepted-layout-requires c κs = search needs
+
 first-broken-requires : tie.Need-first-broken-requires
 first-broken-requires c κs = search needs
 
 returns-4 : tie.Need-returns-4
 unfolding judge isHeader answer
 returns-4 c =
+    let told = c .before .before in
+    let checked = told .before .before in
+    let spelt = checked .before .before in
     simp (
-      eq-eqb _ _ (c .before .before .before .before .before .before .before .if1 .left),
-      ← c .before .before .before .before .before .before .magic-of .ensures,
-      le-leb _ _ (c .before .before .before .before .before .if2 .left),
-      sym (c .before .before .before .before .checksums-match .ensures) ∙ not-false _ (c .before .before .before .if3 .left),
-      ← c .before .before .read-fields .ensures,
+      eq-eqb _ _ (spelt .before .before .if1 .left),
+      ← spelt .before .magic-of .ensures,
+      le-leb _ _ (spelt .if2 .left),
+      sym (checked .before .checksums-match .ensures) ∙ not-false _ (checked .if3 .left),
+      ← told .before .read-fields .ensures,
+      ← told .accepted-layout .ensures,
       ← c .before .first-broken .ensures,
       ne-eqb _ _ (c .if4 .taken),
     )
 
-accepted-layout-requires : tie.Need-accepted-layout-requires
-accepted-layout-requires c κs = search needs
-
 returns-5 : tie.Need-returns-5
 unfolding judge isHeader answer
 returns-5 c =
+    let told = c .before .before in
+    let checked = told .before .before in
+    let spelt = checked .before .before in
     simp (
-      eq-eqb _ _ (c .before .before .before .before .before .before .before .before .if1 .left),
-      ← c .before .before .before .before .before .before .before .magic-of .ensures,
-      le-leb _ _ (c .before .before .before .before .before .before .if2 .left),
-      sym (c .before .before .before .before .before .checksums-match .ensures) ∙ not-false _ (c .before .before .before .before .if3 .left),
-      ← c .before .before .before .read-fields .ensures,
-      ← c .before .before .first-broken .ensures,
-      eq-eqb _ _ (c .before .if4 .left),
-      ← c .accepted-layout .ensures,
+      eq-eqb _ _ (spelt .before .before .if1 .left),
+      ← spelt .before .magic-of .ensures,
+      le-leb _ _ (spelt .if2 .left),
+      sym (checked .before .checksums-match .ensures) ∙ not-false _ (checked .if3 .left),
+      ← told .before .read-fields .ensures,
+      ← told .accepted-layout .ensures,
+      ← c .before .first-broken .ensures,
+      eq-eqb _ _ (c .if4 .left),
     )
 
 pub judge-spec : {M : Type 1} → statement M
@@ -77,7 +84,7 @@ judge-spec =
     checksums-match-requires
     returns-3
     read-fields-requires
+    accepted-layout-requires
     first-broken-requires
     returns-4
-    accepted-layout-requires
     returns-5)

@@ -15,7 +15,8 @@ use Rattle.guarantees.specs.Header.{IsHeader, Line, number}
 use Rattle.guarantees.specs.Opening.{Codes, candidate, kindOf, IsAccepted, FirstAccepted, FirstHeader, TellsAt, Allowed}
 use Rattle.guarantees.proofs.Reflects.{below-suc}
 use Rattle.guarantees.proofs.JudgementLaws.{number-bounds, Judgement, accepts, refuses, refuses4}
-use Rattle.guarantees.proofs.CandidateLaws.{judge-at-says, layout-tells}
+use Rattle.guarantees.proofs.CandidateLaws.{judge-at-says}
+use Rattle.guarantees.proofs.ToldLaws.{layout-tells}
 
 module _ (candidates codes : List ℕ) (hostSize : ℕ) where
   -- what the search gives

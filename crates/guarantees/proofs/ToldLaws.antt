@@ -1,0 +1,53 @@
+-- What the layout of a header tells, and that two layouts which tell the same header have the same data area.
+-- Assumes nothing.
+use Prim.Native.Nat.{ℕ}
+use native.Mathlib.Omega.{arith}
+use mathlib.Core.Path.{_≡_, refl, sym, _∙_}
+use mathlib.Core.Logic.{inl, inr}
+use mathlib.Core.List.{List}
+use Rattle.layout.specs.declared.Layout.{Layout}
+use Rattle.header.specs.Header.{magicOf, fieldsOf, acceptedLayout}
+use Rattle.guarantees.specs.Header.{IsVera, IsTrue, Tells, DataArea}
+use Rattle.guarantees.proofs.HeaderLaws.{MagicIs, spellsVera, spellsTrue, spellsNeither, magic-of-says}
+
+-- what the candidate tells where it is accepted
+abbrev pub Told : ℕ → ℕ → ℕ → List ℕ → Layout
+Told kind hostSize index h = acceptedLayout kind hostSize index (magicOf h) (fieldsOf h)
+
+vera-told : {h : List ℕ} {magic : ℕ} → MagicIs h magic → IsVera h → magic ≡ 0
+vera-told (spellsVera v g) u = refl
+vera-told (spellsTrue t f) u = absurd (f u)
+vera-told (spellsNeither f) u = absurd (f (inl u))
+
+true-told : {h : List ℕ} {magic : ℕ} → MagicIs h magic → IsTrue h → magic ≡ 1
+true-told (spellsVera v g) u = absurd (g u)
+true-told (spellsTrue t f) u = refl
+true-told (spellsNeither f) u = absurd (f (inr u))
+
+pub layout-tells : (kind hostSize index : ℕ) (h : List ℕ) → Tells kind hostSize index h (Told kind hostSize index h)
+unfolding acceptedLayout fieldsOf
+layout-tells kind hostSize index h =
+    record {
+      hostSizeTold = refl;
+      kindTold = refl;
+      veraTold = vera-told (magic-of-says h);
+      trueTold = true-told (magic-of-says h);
+      versionTold = refl;
+      minProgramVersionTold = refl;
+      startTold = refl;
+      sizeTold = refl;
+      candidateTold = refl;
+    }
+
+pub tells-area : {kind hostSize index other encryptedSize : ℕ} {h : List ℕ} {a b : Layout}
+    → Tells kind hostSize index h a → Tells kind hostSize other h b → DataArea a encryptedSize → DataArea b encryptedSize
+tells-area s t area =
+    record {
+      atLeast = omega (arith, area .atLeast, s .sizeTold, t .sizeTold);
+      sizeMultiple = omega (arith, area .sizeMultiple, s .sizeTold, t .sizeTold);
+      startMultiple = omega (arith, area .startMultiple, s .startTold, t .startTold);
+      encrypted = omega (arith, area .encrypted, s .sizeTold, t .sizeTold);
+      standardStart = λ e. omega (arith, area .standardStart (s .kindTold ∙ sym (t .kindTold) ∙ e), s .startTold, t .startTold);
+      hiddenStart = λ e. omega (arith, area .hiddenStart (s .kindTold ∙ sym (t .kindTold) ∙ e), s .startTold, t .startTold);
+      fits = omega (arith, area .fits, s .startTold, t .startTold, s .sizeTold, t .sizeTold, s .hostSizeTold, t .hostSizeTold);
+    }
