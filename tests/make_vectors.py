@@ -1,5 +1,5 @@
 #!/usr/bin/env python3
-"""Makes the inputs and expected outputs of the programs `vectors`, `map_vectors`, `view_vectors` and `volmap`.
+"""Makes the inputs and expected outputs of the programs `vectors` and `volmap`.
 
 The rules of docs/RULES.md are written out a second time in the folder vectors, from their text and not from the
 Rattle code, with zlib's CRC-32. Each case says by hand which answer they give it, and that is held to what is
@@ -10,11 +10,13 @@ computed here before any file is written.
 """
 import sys
 
+from vectors.checks import checks
 from vectors.headers import ROOT
 from vectors.maps import maps
-from vectors.openings import vectors
-from vectors.sectors import map_vectors
-from vectors.views import view_vectors
+from vectors.openings import openings
+from vectors.records import program_files
+from vectors.sectors import sectors
+from vectors.views import views
 
 
 def differing(files):
@@ -26,7 +28,7 @@ def differing(files):
 
 
 def main():
-    files = {**vectors(), **map_vectors(), **view_vectors(), **maps()}
+    files = {**program_files([*checks(), *openings(), *sectors(), *views()]), **maps()}
     if sys.argv[1:] == ['--check']:
         wrong = differing(files)
         for path in wrong:

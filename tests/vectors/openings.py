@@ -1,8 +1,9 @@
-"""The cases of opening: a name, the answer, S, and the pairs of a location code and a candidate; and the files of `vectors`."""
+"""The cases of opening: a name, the answer, S, and the pairs of a location code and a candidate."""
 import zlib
 
 from .headers import changed, header, hidden, OTHER_KEYS, SAMPLES, vera, vera_hidden
-from .rules import locate, open_volume
+from .records import Case, OPENING, same
+from .rules import open_volume
 
 HOST = 1_048_576
 M = header()
@@ -222,55 +223,20 @@ def cases():
     yield from LENGTHS
 
 
-# By hand, from docs/RULES.md.
-CHECK_VALUES = '''\
-crc32 123456789 cbf43926
-crc32  00000000
-location 0 of 1048576: 0
-location 1 of 1048576: 65536
-location 2 of 1048576: 917504
-location 3 of 1048576: 983040
-location 4 of 1048576: refused 2
-location 0 of 1048577: refused 3
-location 1 of 1048577: refused 3
-location 2 of 1048577: refused 3
-location 3 of 1048577: refused 3
-location 4 of 1048577: refused 2
-'''
-
-
-def check_values():
-    lines = [f'crc32 {text} {zlib.crc32(text.encode()):08x}' for text in ('123456789', '')]
-    lines += [f'location {code} of {host_size}: {locate(code, host_size)}'
-              for host_size in (HOST, HOST + 1) for code in range(5)]
-    return ''.join(line + '\n' for line in lines)
-
-
-def record(name, host_size, codes, candidates):
-    """A case as crates/vectors/src/main.rt reads it."""
-    return (len(name).to_bytes(1, 'big') + host_size.to_bytes(8, 'big') + len(codes).to_bytes(2, 'big')
-            + len(candidates).to_bytes(4, 'big') + name.encode('ascii') + codes + candidates)
-
-
-def answer_line(name, answer, candidates):
+def printed(answer, candidates):
     if isinstance(answer, int):
-        return f'{name}: refused {answer}, keys 0\n'
-    start = 512 * answer['candidate'] + 256
-    keys = candidates[start:start + 256]
-    numbers = ' '.join(str(value) for value in answer.values())
-    return f'{name}: accepted {numbers}, keys {len(keys)} {zlib.crc32(keys):08x}\n'
+        words, numbers, keys = f'refused {answer}', [0] * 8, b''
+    else:
+        words, numbers = 'accepted', answer.values()
+        keys = candidates[512 * answer['candidate'] + 256:][:256]
+    return f": {words}, layout {' '.join(map(str, numbers))}, keys {len(keys)} {zlib.crc32(keys):08x}"
 
 
-def vectors():
-    assert check_values() == CHECK_VALUES
-    stream, text, names = b'', CHECK_VALUES, set()
+def openings():
     for name, answer, host_size, codes, candidates in cases():
         computed = open_volume(host_size, codes, candidates)
-        agrees = computed == answer if isinstance(answer, int) else (
-            isinstance(computed, dict) and answer.items() <= computed.items())
-        assert agrees, f'{name}: the rules say {answer}, and {computed} was computed'
-        assert name not in names, f'two cases are named {name}'
-        names.add(name)
-        stream += record(name, host_size, codes, candidates)
-        text += answer_line(name, computed, candidates)
-    return {'crates/vectors/stdin': stream, 'crates/vectors/stdout': text.encode('ascii')}
+        if isinstance(answer, int) or isinstance(computed, int):
+            same(name, answer, computed)
+        else:
+            same(name, answer, {field: computed[field] for field in answer})
+        yield Case(OPENING, name, printed(computed, candidates), (host_size, len(codes)), codes + candidates)

@@ -45,16 +45,26 @@ def protected_view(outer, inner):
     return view(outer, (inner['data_start'], inner['data_start'] + inner['data_size'])) if nests else 12
 
 
+def filled(size, seed):
+    """What an image or a buffer is filled with, as crates/vectors/src/image.rt does it."""
+    content, state = bytearray(size), seed
+    for place in range(size):
+        state = (state * 1_664_525 + 1_013_904_223) % 2**32
+        content[place] = state >> 16 & 255
+    return bytes(content)
+
+
 class ReferenceModel:
     """The sectors of the image and a byte more, and two views. A call's answer is a refusal number or 'accepted'."""
 
     def __init__(self):
-        self.sectors = [sector.to_bytes(8, 'little') + bytes(496) + sector.to_bytes(8, 'little')
-                        for sector in range(1, HOST // 512 + 1)]
+        image = filled(HOST + 1, 0)
+        self.sectors = [image[start:start + 512] for start in range(0, HOST, 512)]
+        self.last_byte = image[HOST:]
         self.views = [view(dict.fromkeys(layout(), 0))] * 2
 
     def checksum(self):
-        return zlib.crc32(b''.join(self.sectors) + b'\0')
+        return zlib.crc32(b''.join(self.sectors) + self.last_byte)
 
     def refusal(self, v, is_write, image_size, first, count, buffer_size):
         if not is_sound_view(v):

@@ -1,4 +1,5 @@
-"""The cases of the sector map, and the files of `map_vectors`."""
+"""The cases of the sector map."""
+from .records import Case, MAP, same
 from .rules import host_sector, is_sound, sector_count, tweak_block, user_sector
 from .openings import HOST
 
@@ -123,23 +124,12 @@ def map_cases():
             yield f'{name}, sector {text}', fields, sector, (False, *['refused 11'] * 4, bytes(16))
 
 
-def map_record(name, fields, sector):
-    """A case as crates/map_vectors/src/main.rt reads it."""
-    numbers = [*fields.values(), sector]
-    return len(name).to_bytes(1, 'big') + b''.join(n.to_bytes(8, 'big') for n in numbers) + name.encode('ascii')
-
-
-def map_vectors():
-    stream, text, names = b'', '', set()
+def sectors():
     for name, fields, sector, answers in map_cases():
         tweak = host_sector(fields, sector)
-        computed = (is_sound(fields), sector_count(fields), tweak, user_sector(fields, sector), tweak,
-                    tweak_block(tweak))
-        assert computed == answers, f'{name}: the rules say {answers}, and {computed} was computed'
-        assert name not in names, f'two cases are named {name}'
-        names.add(name)
-        stream += map_record(name, fields, sector)
-        sound, sectors, host, user, tweak, block = answers
-        text += (f"{name}: {'sound' if sound else 'unsound'}, sectors {sectors}, host {host}, user {user}, "
-                 f'tweak {tweak}, block of {tweak} {block.hex()}\n')
-    return {'crates/map_vectors/stdin': stream, 'crates/map_vectors/stdout': text.encode('ascii')}
+        same(name, answers, (is_sound(fields), sector_count(fields), tweak, user_sector(fields, sector), tweak,
+                             tweak_block(tweak)))
+        sound, count, host, user, tweak, block = answers
+        printed = (f': sound {int(sound)}, sectors {count}, host {host}, user {user}, '
+                   f'tweak {tweak}, block of {tweak} {block.hex()}')
+        yield Case(MAP, name, printed, (sector, *fields.values()))

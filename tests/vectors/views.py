@@ -1,66 +1,72 @@
-"""The files of `view_vectors`."""
+"""The cases of views, run on the reference model."""
 import zlib
 
-from .reference_model import plain_view, protected_view, ReferenceModel
-from .view_cases import MADE_UP, ORDERS, PLAIN, PROTECTED, READ, view_cases, WRITE, YES
+from .making_cases import making_groups
+from .order_cases import order_groups, ORDERS
+from .records import Case, MADE_UP, outcome, PLAIN, PROTECTED, READ, same, WRITE
+from .reference_model import filled, plain_view, protected_view, ReferenceModel
+from .calls import YES
+from .view_cases import ACCESS_GROUPS
 
 
-def view_record(name, call):
-    """A case as crates/view_vectors/src/main.rt reads it."""
-    if call['operation'] in (PLAIN, PROTECTED):
-        numbers = [value for fields in call['layouts'] for value in fields.values()]
-    elif call['operation'] == MADE_UP:
-        made_up = call['view']
-        numbers = [*made_up['layout'].values(), made_up['protected'] is not None, *(made_up['protected'] or (0, 0)),
-                   made_up['locked']]
-    else:
-        numbers = [call['image'], call['first'], call['count'], call['buffer'], call['seed'], call['sums_image']]
-    numbers = [call['operation'], call['slot'], *numbers, *[0] * (16 - len(numbers))]
-    return len(name).to_bytes(1, 'big') + b''.join(int(n).to_bytes(8, 'big') for n in numbers) + name.encode('ascii')
+def calls():
+    """Every call as its group's title, its name, its answer and itself. A read or a write has a seed, its own where none
+    was said."""
+    number = 0
+    for title, group in [*ACCESS_GROUPS, *making_groups(), *order_groups()]:
+        for place, (answer, call) in enumerate(group, start=1):
+            number += 1
+            seed = number if call.get('seed') is None else call['seed']
+            yield title, f"{title}, {place} {call['text']}", answer, {**call, 'seed': seed}
+
+
+def view_numbers(view):
+    protected = view['protected']
+    return [*view['layout'].values(), int(protected is not None), *(protected or (0, 0)), int(view['locked'])]
+
+
+def numbers(call):
+    """The numbers of a call's record."""
+    if call['request'] in (PLAIN, PROTECTED):
+        return [number for fields in call['layouts'] for number in fields.values()]
+    if call['request'] == MADE_UP:
+        return view_numbers(call['view'])
+    return [call[field] for field in ('image', 'first', 'count', 'buffer', 'seed')]
 
 
 def run_call(model, call):
     """The model's answer to a call, and the buffer as the call leaves it, None for a making."""
-    operation, slot = call['operation'], call['slot']
-    if operation == PLAIN:
+    request, slot = call['request'], call['slot']
+    if request == PLAIN:
         return model.make(slot, plain_view(*call['layouts'])), None
-    if operation == PROTECTED:
+    if request == PROTECTED:
         return model.make(slot, protected_view(*call['layouts'])), None
-    if operation == MADE_UP:
+    if request == MADE_UP:
         return model.make(slot, call['view']), None
-    buffer = bytes((call['seed'] + 7 * i) % 251 for i in range(call['buffer']))
-    return model.call(slot, operation == WRITE, call['image'], call['first'], call['count'], buffer)
+    buffer = filled(call['buffer'], call['seed'])
+    return model.call(slot, request == WRITE, call['image'], call['first'], call['count'], buffer)
 
 
-def view_line(name, call, answer, buffer, model):
-    parts = [f'refused {answer}' if isinstance(answer, int) else answer]
+def printed(call, answer, buffer, model):
+    words = [outcome(answer)]
     if buffer is not None:
-        parts.append(f'buffer {zlib.crc32(buffer):08x}')
-    if call.get('sums_image'):
-        parts.append(f'image {model.checksum():08x}')
-    v = model.views[call['slot']]
-    parts.append(' '.join(['layout', *map(str, v['layout'].values())]))
-    parts.append('protected {} {}'.format(*v['protected']) if v['protected'] else 'unprotected')
-    parts.append('locked' if v['locked'] else 'open')
-    return f"{name}: {', '.join(parts)}\n"
+        words += [f'buffer {zlib.crc32(buffer):08x}', f'image {model.checksum():08x}']
+    words.append(' '.join(['view', *map(str, view_numbers(model.views[call['slot']]))]))
+    return f": {', '.join(words)}"
 
 
-def view_vectors():
+def views():
     model = ReferenceModel()
-    stream, text, names, answers, groups = b'', '', set(), set(), {}
-    for name, answer, call in view_cases():
+    answers, groups = set(), {}
+    for title, name, answer, call in calls():
         computed, buffer = run_call(model, call)
-        assert computed == answer, f'{name}: the rules say {answer}, and {computed} was computed'
-        assert name not in names, f'two cases are named {name}'
-        names.add(name)
-        answers.add((call['operation'], answer))
-        group = groups.setdefault(name.split(',')[0], {0: [], 1: []})
+        same(name, answer, computed)
+        answers.add((call['request'], answer))
+        group = groups.setdefault(title, {0: [], 1: []})
         group[call['slot']].append((computed, buffer))
         group['after'] = (list(model.sectors), list(model.views))
-        stream += view_record(name, call)
-        text += view_line(name, call, computed, buffer, model)
+        yield Case(call['request'], name, printed(call, computed, buffer, model), numbers(call), slot=call['slot'])
     assert answers >= {(READ, n) for n in (YES, 11, 13, 14, 15, 16)} | {(WRITE, n) for n in (YES, 11, *range(13, 19))}
     for title in ('before order', 'order'):
         first, *others = [groups[f'{title} {order}'] for order in ORDERS]
         assert others == [first] * len(others), f'{title}: the three differ in an answer, a buffer, the image or a view'
-    return {'crates/view_vectors/stdin': stream, 'crates/view_vectors/stdout': text.encode('ascii')}

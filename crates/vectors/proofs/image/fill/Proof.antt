@@ -1,28 +1,28 @@
--- `view_vectors::fill` meets its contract. The measure is what is left of the length. Assumes nothing.
-use Prim.Native.Nat.{_≤_, _-_}
+-- `vectors::image::fill` meets its contract: it ends with the bytes. Assumes nothing.
+use Prim.Native.Nat.{_-_}
 use mathlib.Core.Path.{_≡_}
-use borrow.Author.Needs.{needs}
 use lib.ListN.{length}
-use Rattle.view_vectors.proofs.fill.Statement.{statement}
-use Rattle.view_vectors.proofs.fill.Tie as tie
+use borrow.Author.Needs.{needs}
+use Rattle.vectors.proofs.image.fill.Statement.{statement}
+use Rattle.vectors.proofs.image.fill.Tie as tie
 
 abbrev Inv-loop : tie.InvT-loop
-Inv-loop buffer₀ seed value₀ i₀ buffer value i = (length buffer ≡ length buffer₀) × (i ≤ length buffer₀)
+Inv-loop bytes₀ seed state₀ i₀ bytes state i = length bytes ≡ length bytes₀
 
 abbrev μ-loop : tie.MeasureT-loop
-μ-loop buffer₀ seed value₀ i₀ buffer value i = length buffer₀ - i
-
-cast-value : tie.Need-cast-value Inv-loop μ-loop
-cast-value c = search needs
+μ-loop bytes₀ seed state₀ i₀ bytes state i = length bytes₀ - i
 
 loop-holds : tie.Need-loop-holds Inv-loop μ-loop
 loop-holds c = search needs
 
-slice-write-buffer : tie.Need-slice-write-buffer Inv-loop μ-loop
-slice-write-buffer c = search needs
-
 next-requires : tie.Need-next-requires Inv-loop μ-loop
 next-requires c κs = search needs
+
+cast-bytes : tie.Need-cast-bytes Inv-loop μ-loop
+cast-bytes c = search needs
+
+slice-write-bytes : tie.Need-slice-write-bytes Inv-loop μ-loop
+slice-write-bytes c = search needs
 
 add-i : tie.Need-add-i Inv-loop μ-loop
 add-i c = search needs
@@ -45,10 +45,10 @@ fill-spec =
     (tie.spec
     Inv-loop
     μ-loop
-    cast-value
     loop-holds
-    slice-write-buffer
     next-requires
+    cast-bytes
+    slice-write-bytes
     add-i
     loop-less
     loop-again

@@ -1,0 +1,49 @@
+// Records that ask for a read or, by any other number, a write: the length of the image, the first
+// sector and the count, the length of the buffer, and what it is filled from. What the call leaves is
+// printed: checksums of the buffer and of the whole image, and the view.
+use crate::image;
+use crate::input;
+use crate::print;
+use crate::views;
+
+const READ: u64 = 7;
+
+const IMAGE_SIZE: usize = 2;
+
+const FIRST: usize = 3;
+
+const COUNT: usize = 4;
+
+const BUFFER_SIZE: usize = 5;
+
+const SEED: usize = 6;
+
+// 130 sectors: more than a call may move.
+const BUFFER_SPACE: usize = 66_560;
+
+pub fn run(image: &mut [u8; image::SPACE], view: &mut [u64; views::SIZE], body: &[u8]) {
+    let mut space = [0u8; BUFFER_SPACE];
+    lend(image, view, body, &mut space);
+    print::checksum(b", image ", image);
+    print::numbers(b", view", view);
+}
+
+// Lends so much of the image and of the space as the record says.
+fn lend(image: &mut [u8], view: &mut [u64; views::SIZE], body: &[u8], space: &mut [u8]) {
+    let image_size = input::within(input::number(body, IMAGE_SIZE), image);
+    let buffer_size = input::within(input::number(body, BUFFER_SIZE), space);
+    let buffer = &mut space[..buffer_size];
+    image::fill(buffer, input::number(body, SEED));
+    let refusal = call(&mut image[..image_size], view, body, buffer);
+    print::answer(b": accepted", refusal);
+    print::checksum(b", buffer ", buffer);
+}
+
+fn call(image: &mut [u8], view: &mut [u64; views::SIZE], body: &[u8], buffer: &mut [u8]) -> u64 {
+    let first = input::number(body, FIRST);
+    let count = input::number(body, COUNT);
+    if input::number(body, 0) == READ {
+        return ondristela::ondristela_read(view, image, first, count, buffer);
+    }
+    ondristela::ondristela_write(view, image, first, count, buffer)
+}

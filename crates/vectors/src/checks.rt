@@ -1,0 +1,12 @@
+// Records that ask for the checksum of what follows, or for a header's location by code and host size.
+use crate::input;
+use crate::print;
+
+pub fn checksum(body: &[u8]) {
+    print::checksum(b" ", input::after(body, 2));
+}
+
+pub fn location(body: &[u8]) {
+    let code = (input::number(body, 2) % 256) as u8;
+    print::numbered(b": ", opening::locate(code, input::number(body, 3)));
+}

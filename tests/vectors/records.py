@@ -1,0 +1,50 @@
+"""The one format of what the program `vectors` reads, a case as a record, and of what it must print, a case as a line.
+
+crates/vectors/src/input.rt reads it: the lengths of the name and of the body, the name, and the body. A body is numbers,
+what is asked for and the slot of a view first, and after them any bytes. Every number is eight bytes, big-endian.
+"""
+from typing import NamedTuple
+
+# What a record asks for, its body's first number.
+CHECKSUM, LOCATION, OPENING, MAP, PLAIN, PROTECTED, MADE_UP, READ, WRITE = range(9)
+
+
+class Case(NamedTuple):
+    request: int
+    name: str
+    printed: str  # after the name
+    numbers: tuple = ()  # after what is asked for and the slot
+    data: bytes = b''
+    slot: int = 0
+
+
+def number_bytes(numbers):
+    return b''.join(int(number).to_bytes(8, 'big') for number in numbers)
+
+
+def record(case):
+    name = case.name.encode('ascii')
+    body = number_bytes([case.request, case.slot, *case.numbers]) + case.data
+    return number_bytes([len(name), len(body)]) + name + body
+
+
+def line(case):
+    return f'{case.name}{case.printed}\n'.encode('ascii')
+
+
+def program_files(cases):
+    """The input and the expected output of `vectors`. No two cases of one request have one name."""
+    cases = list(cases)
+    names = [(case.request, case.name) for case in cases]
+    assert len(set(names)) == len(names), f'one name, two cases: {sorted({n for n in names if names.count(n) > 1})}'
+    return {'crates/vectors/stdin': b''.join(map(record, cases)), 'crates/vectors/stdout': b''.join(map(line, cases))}
+
+
+def outcome(answer):
+    """An answer as it is printed: a refusal's number, or text."""
+    return f'refused {answer}' if isinstance(answer, int) else answer
+
+
+def same(name, by_hand, computed):
+    """The answer that is written by hand is the one that the rules give."""
+    assert computed == by_hand, f'{name}: the rules say {by_hand}, and {computed} was computed'
