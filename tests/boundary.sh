@@ -19,11 +19,26 @@ c=(-std=c11 "${warnings[@]}" -Wstrict-prototypes -Wmissing-prototypes)
 cpp=(-x c++ "${warnings[@]}" -Wold-style-cast)
 sanitizers=(-g "-fsanitize=address,undefined" -fno-sanitize-recover=all)
 
-# run NAME COMPILER FLAG..
+# run NAME COMPILER FLAG..: begins to compile and run; what it says waits for `finish`.
+runs=()
 run() {
-    "${@:2}" -I"$root/include" "$root"/tests/boundary/*.c -x none -L"$folder" -londristela -o "$work/boundary"
-    printf '%s: ' "$1"
-    "$work/boundary"
+    local program=$work/${#runs[@]}
+    {
+        "${@:2}" -I"$root/include" "$root"/tests/boundary/*.c -x none -L"$folder" -londristela -o "$program"
+        printf '%s: ' "$1"
+        "$program"
+    } >"$program.said" 2>&1 &
+    runs+=($!)
+}
+
+# finish: what each run says, in order; fails where one failed.
+finish() {
+    local failed=0
+    for number in "${!runs[@]}"; do
+        wait "${runs[number]}" || failed=1
+        cat "$work/$number.said"
+    done
+    return "$failed"
 }
 
 links_sanitizers() {
@@ -48,3 +63,4 @@ fi
 if links_sanitizers; then
     run 'gcc, C11, sanitizers' gcc "${c[@]}" "${sanitizers[@]}"
 fi
+finish
