@@ -3,11 +3,9 @@
 use Prim.Native.Nat.{ℕ}
 use native.Mathlib.Omega.{arith}
 use mathlib.Core.Path.{_≡_, refl, _∙_}
-use mathlib.Core.Bool.{Bool}
-use mathlib.Core.List.{List, [], _∷_, _++_}
+use mathlib.Core.List.{List}
 use Rattle.answers.specs.Answers.{numberedRefusal, answerRefusal}
 use Rattle.layout.specs.Opened.{openedRefusal}
-use Rattle.layout.specs.declared.Layout.{Layout}
 use Rattle.opening.specs.Opening.{keysOffset, keysSize}
 use Rattle.opening.proofs.OpenedLaws.{opened-inside}
 use Rattle.sector_map.specs.SectorMap.{tweakOf, tweakNumber}

@@ -10,7 +10,8 @@ use lib.Seq.{take-at, drop-append-add, drop-drop, take-add}
 use Rattle.layout.specs.declared.Layout.{Layout}
 use Rattle.sector_map.specs.SectorMap.{sectors, firstSector}
 use Rattle.view.specs.Access.{extentStart, overlay}
-use Rattle.guarantees.specs.Table.{covers, sectorAt, setSector, lay, gather}
+use Rattle.model.specs.Sectors.{sectorAt, setSector, lay, gather}
+use Rattle.guarantees.specs.Table.{covers}
 use Rattle.guarantees.specs.SectorMap.{Sound}
 use Rattle.guarantees.proofs.CoversLaws.{consecutive, covers-consecutive}
 use Rattle.guarantees.proofs.Reflects.{is-true}
@@ -34,14 +35,24 @@ overlay-append at a b image fits =
     let front = take at image ++ a in
     let size : length front ≡ n = simp (length-append, length-take) (omega arith) in
     let total : n + length b ≡ at + length (a ++ b) = omega (arith, length-append a b) in
-    rw (take-at front (drop n image) n size, drop-past front (drop n image) n (length b) size, drop-drop (length b) n image, total, append-assoc (take at image) a b)
+    rw (
+      take-at front (drop n image) n size,
+      drop-past front (drop n image) n (length b) size,
+      drop-drop (length b) n image,
+      total,
+      append-assoc (take at image) a b,
+    )
 
 set-sector-overlay : (host : ℕ) (bytes image : List ℕ) → length bytes ≡ 512 → setSector host bytes image ≡ overlay (host * 512) bytes image
 unfolding setSector overlay
 set-sector-overlay host bytes image size = rw size
 
+-- a sector's bytes as they are given
+abbrev pub asGiven : ℕ → List ℕ → List ℕ
+asGiven host bytes = bytes
+
 lay-consecutive : (h n : ℕ) (buffer image : List ℕ) → length buffer ≡ n * 512 → h * 512 + n * 512 ≤ length image
-    → lay (consecutive h n) buffer image ≡ overlay (h * 512) buffer image
+    → lay asGiven (consecutive h n) buffer image ≡ overlay (h * 512) buffer image
 unfolding lay consecutive
 lay-consecutive h zero [] image size fits = sym (overlay-nil (h * 512) image)
 lay-consecutive h zero (byte ∷ buffer) image size fits = absurd (omega arith)
@@ -53,7 +64,7 @@ lay-consecutive h (suc n) buffer image size fits =
     let inside : h * 512 + length a ≤ length image = omega arith in
     let kept = length-overlay (h * 512) a image inside in
     let next : suc h * 512 ≡ h * 512 + length a = omega arith in
-    ap (lay (consecutive (suc h) n) b) (set-sector-overlay h a image one) ∙ lay-consecutive (suc h) n b (overlay (h * 512) a image) others (omega arith)
+    ap (lay asGiven (consecutive (suc h) n) b) (set-sector-overlay h a image one) ∙ lay-consecutive (suc h) n b (overlay (h * 512) a image) others (omega arith)
     ∙ ap (λ k. overlay k b (overlay (h * 512) a image)) next ∙ overlay-append (h * 512) a b image inside
     ∙ ap (λ l. overlay (h * 512) l image) (take-append-drop 512 buffer)
 
@@ -78,7 +89,7 @@ module _ (layout : Layout) (s : Sound layout) (first count : ℕ) (inside : firs
   gather-extent image = rw (covers-extent, ← extent-start) (gather-consecutive (firstSector layout + first) count image)
 
   pub lay-extent : (buffer image : List ℕ) → length buffer ≡ count * 512 → length image ≡ layout .«host_size»
-      → lay (covers layout first count) buffer image ≡ overlay (extentStart layout first) buffer image
+      → lay asGiven (covers layout first count) buffer image ≡ overlay (extentStart layout first) buffer image
   unfolding sectors firstSector
   lay-extent buffer image size whole =
       rw (covers-extent, ← extent-start) (lay-consecutive (firstSector layout + first) count buffer image size (omega arith))

@@ -53,7 +53,8 @@ module _ (candidates codes : List ℕ) (hostSize : ℕ) where
       → ((n : ℕ) → NoneAccepted (suc k) → SoFar (suc k) n → Found (searchFrom n later)) → Found (searchFrom soFar (o ∷ later))
   unfolding searchFrom
   search-cons-says k later h f s (accepts r keeps) next =
-      anAccepted k _ (record { accepted = record { inside = h; isHeader = r; keeps = keeps }; first = f }) (layout-tells (kindOf (getD codes k 0)) hostSize k (candidate candidates k))
+      anAccepted k _ (record { accepted = record { inside = h; isHeader = r; keeps = keeps }; first = f })
+      (layout-tells (kindOf (getD codes k 0)) hostSize k (candidate candidates k))
   search-cons-says k later h f s (refuses r line breaks) next =
       next _ (below-suc _ k f (λ a. breaks .broken (a .keeps line)))
       (first-refusal-says k (number line) s (λ g. headerBefore k line (record { inside = h; isHeader = r; first = g; breaks = breaks })))

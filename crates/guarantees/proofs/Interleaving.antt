@@ -1,81 +1,58 @@
--- Demand 3: runs of the contracts are the reference model's, and the model's laws carry over to them.
+-- Demand 3: steps on the two views are the reference model's, by lawful rules that keep apart, and so the model's laws hold of every run.
 -- Assumes nothing.
-use Prim.Native.Nat.{ℕ}
-use mathlib.Core.Path.{_≡_, sym, ap, _∙_}
-use mathlib.Core.Bool.{Bool, false}
+use mathlib.Core.Path.{ap}
+use mathlib.Core.Bool.{Bool}
 use mathlib.Core.List.{List}
 use Rattle.layout.specs.declared.Layout.{Layout}
-use Rattle.guarantees.specs.ReferenceModel.{outer, hidden, Call, Turn, Reply, Model, hostsOf, reply, final, replies}
-use Rattle.guarantees.specs.Table.{reads, sectorAt, gather}
-use Rattle.guarantees.specs.Interleaving.{Interleaves, State, Step, Run, contents, repliesOf, shown, start, modelStart, Independent, Interleaved, Demand3}
-use Rattle.guarantees.proofs.NestLaws.{Nest}
-use Rattle.guarantees.proofs.StateLaws.{stateOf}
-use Rattle.guarantees.proofs.StepLaws.{step-agrees}
-use Rattle.guarantees.proofs.RunLaws.{run-exists, run-agrees, run-agrees-from, start-state-of}
-use Rattle.guarantees.proofs.ModelLastWrite.{model-last-write, model-reads-left}
-use Rattle.guarantees.proofs.ModelIndependent.{model-independent}
+use Rattle.view.specs.declared.Protection.the-variants.{Unprotected}
+use Rattle.view.specs.declared.View.{View}
+use Rattle.model.specs.Model.{State, stateWith}
+use Rattle.model.specs.Sides.{Side, outer, hidden, Both, eachWith, OnSide, sided}
+use Rattle.model.proofs.Independence.{run-independent}
+use Rattle.model.proofs.Lawful.{sided-lawful}
+use Rattle.model.proofs.RunLaws.{Models, run-exists, run-agrees, run-last-write, run-reads-left}
+use Rattle.model.proofs.SideLaws.{sided-models, on-side-exists}
+use Rattle.guarantees.specs.Interleaving.{Step, sideLayout, sideProtection, sideView, sideRules, rules, Interleaved, Demand3}
+use Rattle.guarantees.specs.ReferenceModel.{isWrite, isAccepted, inRange, viewRules}
+use Rattle.guarantees.specs.Table.{Call}
+use Rattle.guarantees.specs.Views.{area}
+use Rattle.guarantees.proofs.NestLaws.{Nest, plain-sound, protecting-sound}
+use Rattle.guarantees.proofs.ViewRulesLaws.{sides-lawful, sides-apart}
+use Rattle.guarantees.proofs.StepLaws.{view-models, step-exists}
 
-module _ (outerLayout hiddenLayout : Layout) (nest : Nest outerLayout hiddenLayout)
-    (outerLocked hiddenLocked : Bool) (image : List ℕ) where
-  -- the state at the start, and the model's
-  abbrev begin : State
-  begin = start outerLayout hiddenLayout outerLocked hiddenLocked image
+module _ (outerLayout hiddenLayout : Layout) (nest : Nest outerLayout hiddenLayout) where
+  side-models : (side : Side) → Models (sideRules outerLayout hiddenLayout side) (sideView outerLayout hiddenLayout side) Step
+  unfolding sideRules sideLayout sideProtection sideView
+  side-models outer = view-models outerLayout (area hiddenLayout) (λ locked. protecting-sound outerLayout hiddenLayout locked nest)
+  side-models hidden = view-models hiddenLayout Unprotected (λ locked. plain-sound hiddenLayout locked (nest .hiddenSound))
 
-  abbrev model : Model
-  model = modelStart outerLayout hiddenLayout outerLocked hiddenLocked image
-
-  -- a run gives the model's replies, and ends in the model's state
-  as-model : {turns : List Turn} {answers : List Reply} {last : State} → Run begin turns answers last
-      → (answers ≡ replies outerLayout hiddenLayout turns model) × (last ≡ stateOf outerLayout hiddenLayout (final outerLayout hiddenLayout turns model))
-  as-model r = run-agrees-from outerLayout hiddenLayout nest r model (start-state-of outerLayout hiddenLayout outerLocked hiddenLocked image)
-
-  last-write : (turns : List Turn) (answers : List Reply) (last : State) → Run begin turns answers last → (host : ℕ)
-      → sectorAt host (last .image) ≡ contents outerLayout hiddenLayout host turns answers (sectorAt host image)
-  unfolding stateOf modelStart
-  last-write turns answers last r host =
-      let m = as-model r in
-      ap (λ (state : State). sectorAt host (state .image)) (m .1)
-      ∙ model-last-write outerLayout hiddenLayout nest turns model host
-      ∙ ap (λ (list : List Reply). contents outerLayout hiddenLayout host turns list (sectorAt host image)) (sym (m .0))
-
-  reads-left : (before : List Turn) (call : Turn) (answers : List Reply) (answer : Reply) (middle next : State) → Run begin before answers middle
-      → Step middle call answer next → call .call .kind ≡ reads → answer .answer ≡ 0
-      → answer .buffer
-      ≡ gather (λ host. contents outerLayout hiddenLayout host before answers (sectorAt host image)) (hostsOf outerLayout hiddenLayout call)
-  unfolding modelStart
-  reads-left before call answers answer middle next r s isRead zero =
-      let m = as-model r in
-      let at = final outerLayout hiddenLayout before model in
-      let same : answer ≡ reply outerLayout hiddenLayout call at = step-agrees outerLayout hiddenLayout nest s at (m .1) .0 in
-      ap (λ (given : Reply). given .buffer) same
-      ∙ model-reads-left outerLayout hiddenLayout nest before call model isRead (sym (ap (λ (given : Reply). given .answer) same) ∙ zero)
-      ∙ ap (λ (list : List Reply). gather (λ host. contents outerLayout hiddenLayout host before list (sectorAt host image)) (hostsOf outerLayout hiddenLayout call)) (sym (m .0))
-
-  independent : (xs ys : List Call) (turns others : List Turn) (answers otherAnswers : List Reply) (last otherLast : State)
-      → Interleaves xs ys turns → Interleaves xs ys others → Run begin turns answers last → Run begin others otherAnswers otherLast
-      → Independent outerLayout hiddenLayout outerLocked hiddenLocked image xs turns others answers otherAnswers last otherLast
-  independent xs ys turns others answers otherAnswers last otherLast i j r s =
-      let m = as-model r in
-      let n = as-model s in
-      let same = model-independent outerLayout hiddenLayout nest xs ys turns others model i j in
+  pub interleaved : (model : State (Both Bool)) (xs ys : List Call) → Interleaved outerLayout hiddenLayout model xs ys
+  unfolding sided sideRules viewRules isWrite isAccepted stateWith
+  interleaved model xs ys =
+      let sides = sideRules outerLayout hiddenLayout in
+      let view = eachWith (sideView outerLayout hiddenLayout) in
+      let lawful = sides-lawful outerLayout hiddenLayout (nest .outerSound) (nest .hiddenSound) in
+      let together = sided-lawful sides lawful in
+      let models = sided-models sides (sideView outerLayout hiddenLayout) Step side-models in
       record {
-        sameEnd = m .1 ∙ ap (stateOf outerLayout hiddenLayout) (same .0) ∙ sym (n .1);
-        hiddenReplies =
-            ap (repliesOf outerLayout hiddenLayout hidden turns) (m .0) ∙ same .1 .0 ∙ sym (ap (repliesOf outerLayout hiddenLayout hidden others) (n .0));
-        outerReplies =
-            ap (λ (list : List Reply). shown outerLayout hiddenLayout xs (repliesOf outerLayout hiddenLayout outer turns list)) (m .0)
-            ∙ same .1 .1
-            ∙ sym (ap (λ (list : List Reply). shown outerLayout hiddenLayout xs (repliesOf outerLayout hiddenLayout outer others list)) (n .0));
-      }
-
-  pub interleaved : (xs ys : List Call) → Interleaved outerLayout hiddenLayout outerLocked hiddenLocked image xs ys
-  interleaved xs ys =
-      record {
-        runs = λ turns i. run-exists begin turns;
-        agrees = λ turns answers last i r. run-agrees outerLayout hiddenLayout outerLocked hiddenLocked image nest turns answers last r;
-        lastWrite = λ turns answers last i r host. last-write turns answers last r host;
-        readsLeft = λ before call after answers answer middle next i r s isRead zero. reads-left before call answers answer middle next r s isRead zero;
-        independent = independent xs ys;
+        runs = λ turns merged. run-exists (OnSide Step) (on-side-exists Step step-exists) (stateWith view model) turns;
+        agrees = λ turns answers last merged run.
+            let same = run-agrees (rules outerLayout hiddenLayout) view (OnSide Step) models model run in
+            record {
+              sameReplies = same .0;
+              sameImage = ap (λ (state : State (Both View)). state .image) (same .1);
+              sameViews = ap (λ (state : State (Both View)). state .held) (same .1);
+            };
+        lastWrite = λ turns answers last merged run. run-last-write (rules outerLayout hiddenLayout) view (OnSide Step) models together model run;
+        readsLeft = λ before turn after answers given middle next merged run one isRead accepted.
+            run-reads-left (rules outerLayout hiddenLayout) view (OnSide Step) models together model run turn given next one (ap isWrite isRead)
+            (ap isAccepted accepted);
+        independent = λ turns others answers otherAnswers last otherLast merged otherwise run other.
+            let same =
+            run-independent sides (inRange (area hiddenLayout)) lawful
+            (sides-apart outerLayout hiddenLayout (nest .outerSound) (nest .hiddenSound)) (sideView outerLayout hiddenLayout) Step side-models model merged
+            otherwise run other in
+            record { sameEnd = same .0; hiddenReplies = same .1 .toHidden; outerReplies = same .1 .toOuter };
       }
 
 pub demand-3 : (outerLayout hiddenLayout : Layout) → Demand3 outerLayout hiddenLayout

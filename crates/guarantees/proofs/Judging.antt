@@ -1,11 +1,11 @@
 -- The rules are met exactly where they hold, one candidate is judged by them, and the key bytes are the accepted candidate's.
 -- Assumes nothing.
-use Prim.Native.Nat.{ℕ, _+_, _*_, _≤_, _<_}
+use Prim.Native.Nat.{ℕ, _+_, _<_}
 use native.Mathlib.Omega.{arith}
 use mathlib.Core.Path.{_≡_, refl, sym, ap, _∙_}
 use mathlib.Core.Logic.{_↔_}
 use mathlib.Core.Bool.{Bool, true}
-use mathlib.Core.List.{List, [], _++_}
+use mathlib.Core.List.{List, _++_}
 use lib.ListN.{length, drop, length-append}
 use lib.Seq.{drop-at, drop-drop}
 use borrow.Author.Tests.{ne-eqb}
@@ -53,7 +53,8 @@ module _ (kind hostSize index : ℕ) where
   any-salt : (salt other rest : List ℕ) → length salt ≡ 64 → length other ≡ 64
       → judge kind hostSize index (salt ++ rest) ≡ judge kind hostSize index (other ++ rest)
   any-salt salt other rest e f =
-      judge-same (salt ++ rest) (other ++ rest) (omega (arith, length-append salt rest, length-append other rest)) (drop-at salt rest 64 e ∙ sym (drop-at other rest 64 f))
+      judge-same (salt ++ rest) (other ++ rest) (omega (arith, length-append salt rest, length-append other rest))
+      (drop-at salt rest 64 e ∙ sym (drop-at other rest 64 f))
 
   module _ (h : List ℕ) where
     -- fewer or more bytes are no header

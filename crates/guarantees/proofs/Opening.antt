@@ -41,7 +41,8 @@ module _ (candidates codes : List ℕ) (hostSize : ℕ) where
   opened-allowed : (layout : Layout) → opened candidates codes hostSize ≡ Accepted layout → Allowed candidates codes hostSize
   unfolding opened
   opened-allowed layout =
-      allowed-by (searchFrom 4 (judgements candidates hostSize 0 codes)) (lengths-reflects candidates codes) (codes-reflects codes) (host-size-reflects hostSize)
+      allowed-by (searchFrom 4 (judgements candidates hostSize 0 codes)) (lengths-reflects candidates codes) (codes-reflects codes)
+      (host-size-reflects hostSize)
 
 pub opens-exactly-when : (candidates codes : List ℕ) (hostSize : ℕ) → OpensExactlyWhen candidates codes hostSize
 unfolding opened

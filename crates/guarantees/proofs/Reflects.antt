@@ -4,7 +4,7 @@ use Prim.Native.Nat.{ℕ, zero, suc, _≤_, _<_}
 use native.Mathlib.Nat.{le-of-suc-le-suc}
 use native.Mathlib.Omega.{arith}
 use mathlib.Core.Path.{_≡_, refl, sym, subst}
-use mathlib.Core.Bool.{Bool, true, false, _&&_, not}
+use mathlib.Core.Bool.{Bool, true, false, _&&_, not, true≢false}
 use mathlib.Core.List.{List, [], _∷_}
 use lib.Dec.{leb, eqb}
 use lib.ListN.{length, getD}
@@ -21,6 +21,10 @@ is-true (fails f) q = absurd (f q)
 pub is-false : {P : Type 0} {b : Bool} → Reflects P b → (P → ⊥) → b ≡ false
 is-false (holds p) g = absurd (g p)
 is-false (fails f) g = refl
+
+pub holds-true : {P : Type 0} {b : Bool} → Reflects P b → b ≡ true → P
+holds-true (holds p) e = p
+holds-true (fails f) e = absurd (true≢false (sym e))
 
 reflects-by : {P : Type 0} (b : Bool) → (b ≡ true → P) → (b ≡ false → P → ⊥) → Reflects P b
 reflects-by true f g = holds (f refl)

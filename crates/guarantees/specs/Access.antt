@@ -1,66 +1,50 @@
 -- Reads and writes on any view, made-up ones too (RULES.md, Reads and writes): 11 exactly for an unsound view, and else the table of
 -- refusals, with 18 over the host sectors that the map gives; and what each call leaves, sector by sector. `readNumber`, `writeNumber`,
 -- `filledBy`, `writtenBy`, `ReadPost` and `WritePost` are the definitions that the contracts of `view` and `ondristela` cite. Assumes nothing.
-use Prim.Native.Nat.{ℕ, _*_}
+use Prim.Native.Nat.{ℕ}
 use mathlib.Core.Path.{_≡_}
-use mathlib.Core.Bool.{Bool, false, _&&_, _||_, cond}
-use mathlib.Core.List.{List, [], _∷_}
-use lib.Dec.{leb, ltb, eqb}
+use mathlib.Core.Bool.{Bool}
+use mathlib.Core.List.{List}
 use lib.ListN.{length}
-use Rattle.view.specs.Access.{readNumber, writeNumber, filledBy, writtenBy, ReadPost, WritePost}
 use Rattle.answers.specs.declared.Answer.{Answer}
-use Rattle.answers.specs.declared.Answer.the-variants.{Accepted, Refused}
+use Rattle.answers.specs.declared.Answer.the-variants.{Refused}
+use Rattle.view.specs.Access.{readNumber, writeNumber, answered, filledBy, writtenBy, ReadPost, WritePost}
 use Rattle.view.specs.declared.Outcome.{Outcome}
-use Rattle.view.specs.declared.Protection.{Protection}
-use Rattle.view.specs.declared.Protection.the-variants.{Unprotected, Protected}
 use Rattle.view.specs.declared.View.{View}
-use Rattle.guarantees.specs.Table.{reads, writes, tabled, covers, bufferLeft, imageLeft, lockLeft}
+use Rattle.model.specs.Model.{Rules, bufferAfter, imageAfter}
+use Rattle.guarantees.specs.ReferenceModel.{lockLeft, viewRules}
+use Rattle.guarantees.specs.Table.{Operation, reads, writes, Call}
 use Rattle.guarantees.specs.Views.{SoundView}
 
--- a host sector lies in the protected range
-unfoldable pub inRange : Protection → ℕ → Bool
-inRange Unprotected host = false
-inRange (Protected first end) host = leb first (host * 512) && ltb (host * 512) end
-
--- one of the host sectors does
-unfoldable pub anyInRange : Protection → List ℕ → Bool
-anyInRange protection [] = false
-anyInRange protection (host ∷ hosts) = inRange protection host || anyInRange protection hosts
-
--- the answer with a number: accepted where that is 0
-abbrev pub answerOf : ℕ → Answer
-answerOf number = cond (eqb number 0) Accepted (Refused number)
-
 module _ (view : View) (image : List ℕ) (first count : ℕ) (buffer : List ℕ) where
-  -- the host sectors of the extent
-  abbrev pub hosts : List ℕ
-  hosts = covers (view .layout) first count
+  -- the call, and the rules of its view
+  abbrev pub call : Operation → Call
+  call operation = record { operation = operation; first = first; count = count; buffer = buffer }
 
-  -- the extent touches the view's protected range
-  abbrev pub touch : Bool
-  touch = anyInRange (view .protection) hosts
+  abbrev pub rules : Rules Call Bool Answer
+  rules = viewRules (view .layout) (view .protection)
 
-  -- the refusal number of a read, and of a write
-  abbrev pub readBy : ℕ
-  readBy = readNumber view (length image) first count (length buffer)
+  -- the answer to a read, and to a write
+  abbrev pub readBy : Answer
+  readBy = answered (readNumber view (length image) first count (length buffer))
 
-  abbrev pub writeBy : ℕ
-  writeBy = writeNumber view (length image) first count (length buffer)
+  abbrev pub writeBy : Answer
+  writeBy = answered (writeNumber view (length image) first count (length buffer))
 
   -- the claim
   pub record AccessesByTable : Type 0 where
-    -- the refusal number
-    pub unsoundRead : (SoundView view → ⊥) → readBy ≡ 11
-    pub unsoundWrite : (SoundView view → ⊥) → writeBy ≡ 11
-    pub readTabled : SoundView view → readBy ≡ tabled reads (view .layout) (view .locked) touch (length image) first count (length buffer)
-    pub writeTabled : SoundView view → writeBy ≡ tabled writes (view .layout) (view .locked) touch (length image) first count (length buffer)
+    -- the answer
+    pub unsoundRead : (SoundView view → ⊥) → readBy ≡ Refused 11
+    pub unsoundWrite : (SoundView view → ⊥) → writeBy ≡ Refused 11
+    pub readTabled : SoundView view → readBy ≡ rules .judge (call reads) (view .locked) (length image)
+    pub writeTabled : SoundView view → writeBy ≡ rules .judge (call writes) (view .locked) (length image)
     -- the bytes: a read's buffer and a write's image
-    pub filled : filledBy view image first count buffer ≡ bufferLeft reads readBy hosts buffer image
-    pub written : writtenBy view image first count buffer ≡ imageLeft writes writeBy hosts buffer image
+    pub filled : filledBy view image first count buffer ≡ bufferAfter rules (call reads) readBy image
+    pub written : writtenBy view image first count buffer ≡ imageAfter rules (call writes) writeBy image
     -- what the calls of the view hand back: the answer, and the view, which only a write's 18 changes
     pub readBack : (outcome : Outcome) (after : List ℕ) → ReadPost view image first count buffer outcome after
-        → (outcome .answer ≡ answerOf readBy) × (outcome .view ≡ view) × (after ≡ filledBy view image first count buffer)
+        → (outcome .answer ≡ readBy) × (outcome .view ≡ view) × (after ≡ filledBy view image first count buffer)
     pub writeBack : (outcome : Outcome) (after : List ℕ) → WritePost view image first count buffer outcome after
-        → (outcome .answer ≡ answerOf writeBy)
+        → (outcome .answer ≡ writeBy)
         × (outcome .view ≡ record { layout = view .layout; protection = view .protection; locked = lockLeft writeBy (view .locked) })
         × (after ≡ writtenBy view image first count buffer)

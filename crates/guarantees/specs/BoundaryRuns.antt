@@ -2,81 +2,71 @@
 -- demand 3's sense. The steps are stated with `ReadCall` and `WriteCall`, which the contracts of the two functions cite. Assumes nothing.
 use Prim.Native.Nat.{ℕ}
 use mathlib.Core.Path.{_≡_}
-use mathlib.Core.List.{List, [], _∷_}
-use mathlib.Core.Bool.{false}
+use mathlib.Core.Bool.{false, cond}
+use mathlib.Core.List.{List, map}
+use lib.Dec.{eqb}
 use lib.ListN.{length}
+use Rattle.answers.specs.declared.Answer.{Answer}
+use Rattle.answers.specs.declared.Answer.the-variants.{Accepted, Refused}
 use Rattle.layout.specs.declared.Layout.{Layout}
 use Rattle.view.specs.Views.{plainView, protectedView}
+use Rattle.view.specs.declared.View.{View}
 use Rattle.ondristela.specs.Boundary.{viewFrom, viewedLeft, ReadCall, WriteCall}
-use Rattle.guarantees.specs.Interleaving.{turn, State, Run}
-use Rattle.guarantees.specs.Interleaving as states
-use Rattle.guarantees.specs.ReferenceModel.{Side, outer, hidden, Turn, Reply}
+use Rattle.model.specs.Model.{State, stateWith, Reply}
+use Rattle.model.specs.Runs.{Run}
+use Rattle.model.specs.Sides.{Side, Turn, Both, at, eachWith, OnSide}
+use Rattle.guarantees.specs.Interleaving.{Step, viewsOf}
 use Rattle.guarantees.specs.SectorMap.{Sound}
-use Rattle.guarantees.specs.Table.{reads, writes}
+use Rattle.guarantees.specs.Table.{Operation, reads, writes, Call}
 use Rattle.guarantees.specs.Views.{Nested}
 
 -- both views' numbers, and the image
-pub record Numbers : Type 0 where
-  pub outerNumbers : List ℕ
-  pub hiddenNumbers : List ℕ
-  pub image : List ℕ
+abbrev pub Numbers : Type 0
+Numbers = State (Both (List ℕ))
 
 -- a view has twelve numbers
-pub record Twelve (numbers : Numbers) : Type 0 where
-  pub outerTwelve : length (numbers .outerNumbers) ≡ 12
-  pub hiddenTwelve : length (numbers .hiddenNumbers) ≡ 12
+abbrev pub Twelve : Numbers → Type 0
+Twelve numbers = (side : Side) → length (at side (numbers .held)) ≡ 12
 
 -- the views that they tell
-unfoldable pub told : Numbers → State
-told numbers = record { outerView = viewFrom (numbers .outerNumbers); hiddenView = viewFrom (numbers .hiddenNumbers); image = numbers .image }
+abbrev pub told : Numbers → State (Both View)
+told numbers = stateWith (eachWith (λ side. viewFrom)) numbers
 
--- the numbers of a side
-unfoldable pub numbersOf : Side → Numbers → List ℕ
-numbersOf outer numbers = numbers .outerNumbers
-numbersOf hidden numbers = numbers .hiddenNumbers
-
--- other numbers on one side, and another image
-unfoldable pub putNumbers : Side → List ℕ → List ℕ → Numbers → Numbers
-putNumbers outer left image numbers = record { outerNumbers = left; hiddenNumbers = numbers .hiddenNumbers; image = image }
-putNumbers hidden left image numbers = record { outerNumbers = numbers .outerNumbers; hiddenNumbers = left; image = image }
+-- the reply that a returned number tells: 0 is an acceptance
+unfoldable pub answerTold : Reply ℕ → Reply Answer
+answerTold given = record { answer = cond (eqb (given .answer) 0) Accepted (Refused (given .answer)); buffer = given .buffer }
 
 -- what `ondristela_view_protected` and `ondristela_view_plain` store for an outer and a hidden layout, and an image
 unfoldable pub storedFor : Layout → Layout → List ℕ → List ℕ → List ℕ → Numbers
 storedFor outerLayout hiddenLayout before other image =
     record {
-      outerNumbers = viewedLeft (protectedView outerLayout hiddenLayout) before;
-      hiddenNumbers = viewedLeft (plainView hiddenLayout) other;
       image = image;
+      held =
+          record { outerOne = viewedLeft (protectedView outerLayout hiddenLayout) before; hiddenOne = viewedLeft (plainView hiddenLayout) other };
     }
 
--- one exported call that keeps its contract: it gets its view's numbers and the image as the calls before left them
-pub data NumberStep : Numbers → Turn → Reply → Numbers → Type 0 where
-  aRead : {numbers : Numbers} (side : Side) (first count : ℕ) (buffer filled : List ℕ) (number : ℕ)
-      → ReadCall (numbersOf side numbers) (numbers .image) first count buffer number filled
-      → NumberStep numbers (turn side (record { kind = reads; first = first; count = count; buffer = buffer }))
-      (record { answer = number; buffer = filled }) numbers
-  aWrite : {numbers : Numbers} (side : Side) (first count : ℕ) (buffer written left : List ℕ) (number : ℕ)
-      → WriteCall (numbersOf side numbers) (numbers .image) first count buffer number written left
-      → NumberStep numbers (turn side (record { kind = writes; first = first; count = count; buffer = buffer }))
-      (record { answer = number; buffer = buffer }) (putNumbers side left written numbers)
+-- an exported call that keeps its contract, by what it does, on a view's numbers
+unfoldable pub NumberKeeps : Operation → State (List ℕ) → ℕ → ℕ → List ℕ → Reply ℕ → State (List ℕ) → Type 0
+NumberKeeps reads state first count buffer given after =
+    ReadCall (state .held) (state .image) first count buffer (given .answer) (given .buffer) × (after ≡ state)
+NumberKeeps writes state first count buffer given after =
+    WriteCall (state .held) (state .image) first count buffer (given .answer) (after .image) (after .held) × (given .buffer ≡ buffer)
 
--- any sequence of such calls
-pub data NumberRun : Numbers → List Turn → List Reply → Numbers → Type 0 where
-  done : {numbers : Numbers} → NumberRun numbers [] [] numbers
-  step : {numbers next last : Numbers} {call : Turn} {turns : List Turn} {answer : Reply} {answers : List Reply}
-      → NumberStep numbers call answer next → NumberRun next turns answers last → NumberRun numbers (call ∷ turns) (answer ∷ answers) last
+abbrev pub NumberStep : State (List ℕ) → Call → Reply ℕ → State (List ℕ) → Type 0
+NumberStep state call given after = NumberKeeps (call .operation) state (call .first) (call .count) (call .buffer) given after
 
 -- the claim, from any numbers on
 pub record CarriesRuns (numbers : Numbers) : Type 0 where
-  -- every list of calls has such a sequence
-  pub runs : (turns : List Turn) → (answers : List Reply) × (last : Numbers) × NumberRun numbers turns answers last
-  -- and each is a run on the views that the numbers tell, with the same answers, bytes and image
-  pub isRun : Twelve numbers → (turns : List Turn) (answers : List Reply) (last : Numbers) → NumberRun numbers turns answers last
-      → Run (told numbers) turns answers (told last)
+  -- every list of calls has a sequence of such calls
+  pub runs : (turns : List (Turn Call)) → (answers : List (Reply ℕ)) × (last : Numbers) × Run (OnSide NumberStep) numbers turns answers last
+  -- and each is a run on the views that the numbers tell, with the answers that are told, and the same bytes and image
+  pub isRun : Twelve numbers → (turns : List (Turn Call)) (answers : List (Reply ℕ)) (last : Numbers)
+      → Run (OnSide NumberStep) numbers turns answers last → Run (OnSide Step) (told numbers) turns (map answerTold answers) (told last)
 
 -- where such runs begin: the numbers stored for the two views of demand 3 tell its start
 pub record BeginsRuns (outerLayout hiddenLayout : Layout) : Type 0 where
   pub start : Sound outerLayout → Sound hiddenLayout → Nested outerLayout hiddenLayout → (before other image : List ℕ)
-      → told (storedFor outerLayout hiddenLayout before other image) ≡ states.start outerLayout hiddenLayout false false image
+      → told (storedFor outerLayout hiddenLayout before other image)
+      ≡ viewsOf outerLayout hiddenLayout (record { image = image; held = record { outerOne = false; hiddenOne = false } })
   pub twelve : Sound outerLayout → Sound hiddenLayout → Nested outerLayout hiddenLayout → (before other image : List ℕ)
       → Twelve (storedFor outerLayout hiddenLayout before other image)

@@ -9,10 +9,12 @@ use Rattle.layout.specs.declared.Opened.the-variants.{Accepted}
 use Rattle.opening.specs.Opening.{opened}
 use Rattle.view.specs.Views.{plainView, protectedView}
 use Rattle.view.specs.declared.Viewed.the-variants.{Made}
+use Rattle.model.specs.Model.{State}
+use Rattle.model.specs.Sides.{Both}
 use Rattle.guarantees.specs.Header.{fieldsAt}
 use Rattle.guarantees.specs.Interleaving.{Interleaved}
 use Rattle.guarantees.specs.Opening.{kindOf}
-use Rattle.guarantees.specs.ReferenceModel.{Call}
+use Rattle.guarantees.specs.Table.{Call}
 use Rattle.guarantees.specs.Views.{plain, protecting}
 
 -- a layout has the host, and the data area that a header tells
@@ -35,8 +37,7 @@ pub record ViewsHold (outerHeader hiddenHeader : List ℕ) (hostSize : ℕ) (out
   pub hiddenArea : HasArea hostSize hiddenHeader hiddenLayout
   pub outerView : protectedView outerLayout hiddenLayout ≡ Made (protecting outerLayout hiddenLayout false)
   pub hiddenView : plainView hiddenLayout ≡ Made (plain hiddenLayout false)
-  pub demand3 : (outerLocked hiddenLocked : Bool) (image : List ℕ) (xs ys : List Call)
-      → Interleaved outerLayout hiddenLayout outerLocked hiddenLocked image xs ys
+  pub demand3 : (model : State (Both Bool)) (xs ys : List Call) → Interleaved outerLayout hiddenLayout model xs ys
 
 -- the claim, for any bytes
 pub record FromHeaders (outerHeader hiddenHeader : List ℕ) (outerCode hiddenCode hostSize : ℕ) : Type 0 where

@@ -16,10 +16,13 @@ use Rattle.guarantees.specs.SectorMap.{Sound}
 abbrev pub plain : Layout → Bool → View
 plain layout locked = record { layout = layout; protection = Unprotected; locked = locked }
 
--- an outer volume's view that protects a hidden one's data area, from its first byte to the byte past its end
+-- a volume's data area as a protected range, from its first byte to the byte past its end
+abbrev pub area : Layout → Protection
+area layout = Protected (layout .«data_start») (layout .«data_start» + layout .«data_size»)
+
+-- an outer volume's view that protects a hidden one's data area
 abbrev pub protecting : Layout → Layout → Bool → View
-protecting outer hiddenLayout locked =
-    record { layout = outer; protection = Protected (hiddenLayout .«data_start») (hiddenLayout .«data_start» + hiddenLayout .«data_size»); locked = locked }
+protecting outer hiddenLayout locked = record { layout = outer; protection = area hiddenLayout; locked = locked }
 
 -- bytes that may be protected: of a standard volume's data area, on sector boundaries, and at least one sector
 pub record ProtectedRange (layout : Layout) (first end : ℕ) : Type 0 where

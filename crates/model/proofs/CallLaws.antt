@@ -15,13 +15,13 @@ module _ {Call Lock Answer : Type 0} (rules : Rules Call Lock Answer) (lawful : 
   module _ (call : Call) (model : State Lock) where
     -- an accepted write
     abbrev moves : Bool
-    moves = rules .accepts call (rules .judge call (model .held) (length (model .image))) && rules .writes call
+    moves = rules .writes call && rules .accepts call (rules .judge call (model .held) (length (model .image)))
 
     abbrev laid : List ℕ
     laid = lay (rules .stored call) (rules .hosts call) (rules .buffer call) (model .image)
 
     fits : moves ≡ true → Fitting (length (model .image)) (rules .hosts call) (rules .buffer call)
-    fits e = lawful .fitting call (model .held) (length (model .image)) (both-true _ _ e .0)
+    fits e = lawful .fitting call (model .held) (length (model .image)) (both-true (rules .writes call) _ e .1)
 
     pub length-next : length (next rules call model .image) ≡ length (model .image)
     unfolding next imageAfter judged
@@ -55,5 +55,5 @@ module _ {Call Lock Answer : Type 0} (rules : Rules Call Lock Answer) (lawful : 
       ≡ gather (λ host. rules .shown call host (contents rules host before (replies rules before model) (sectorAt host (model .image)))) (rules .hosts call)
   unfolding reply bufferAfter
   reads-left before call model isRead accepted =
-      rw (accepted, isRead)
+      rw (isRead, accepted)
       (ap (λ (f : ℕ → List ℕ). gather (λ host. rules .shown call host (f host)) (rules .hosts call)) (fun-ext (λ host. last-write before model host)))

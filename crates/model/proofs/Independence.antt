@@ -5,17 +5,17 @@ use mathlib.Core.Path.{_≡_, sym, ap, _∙_}
 use mathlib.Core.Bool.{Bool, not}
 use mathlib.Core.List.{List}
 use Rattle.model.specs.Sectors.{sectorAt}
-use Rattle.model.specs.Model.{Rules, State, Reply, replies, final}
+use Rattle.model.specs.Model.{Rules, State, stateWith, Reply, replies, final}
 use Rattle.model.specs.Runs.{Run}
-use Rattle.model.specs.Sides.{Side, outer, hidden, Turn, Interleaves, Both, at, OnSide, sided, toldTo, unprotected}
+use Rattle.model.specs.Sides.{Side, outer, hidden, Turn, Interleaves, Both, at, eachWith, OnSide, sided, toldTo, unprotected}
 use Rattle.model.proofs.Alone.{picks-outer, picks-hidden, picked-alike}
 use Rattle.model.proofs.Cases.{test-cases}
 use Rattle.model.proofs.Lawful.{Lawful}
 use Rattle.model.proofs.ReplySameness.{reply-hidden-same, unprotected-outer-same}
-use Rattle.model.proofs.RunLaws.{stateWith, Models, run-agrees}
+use Rattle.model.proofs.RunLaws.{Models, run-agrees}
 use Rattle.model.proofs.Sameness.{owns, Apart, Same}
 use Rattle.model.proofs.SectorLaws.{sectors-ext}
-use Rattle.model.proofs.SideLaws.{eachWith, sided-models}
+use Rattle.model.proofs.SideLaws.{sided-models}
 
 module _ {Call Lock Answer : Type 0} (rules : Side → Rules Call Lock Answer) (protects : ℕ → Bool) where
   -- models that are the same for both sides are equal

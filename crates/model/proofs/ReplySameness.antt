@@ -48,15 +48,15 @@ module _ {Call Lock Answer : Type 0} (rules : Side → Rules Call Lock Answer) (
       let read : List ℕ → List ℕ = λ image. gather (λ host. own .shown call host (sectorAt host image)) (own .hosts call) in
       let buffers =
       test-cases (λ b. cond b (read (model .image)) (own .buffer call) ≡ cond b (read (other .image)) (own .buffer call))
-      (own .accepts call given && not (own .writes call))
+      (not (own .writes call) && own .accepts call given)
       (λ e.
       gather-same _ _ (own .hosts call)
-      (every-same (own .hosts call) (apart .hiddenCalls call (at hidden (model .held)) (length (model .image)) (both-true _ _ e .0))))
+      (every-same (own .hosts call) (apart .hiddenCalls call (at hidden (model .held)) (length (model .image)) (both-true (not (own .writes call)) _ e .1))))
       (λ e. refl) in
       λ i. record {
         answer = answer i;
         buffer =
-            (buffers ∙ ap (λ (a : Answer). cond (own .accepts call a && not (own .writes call)) (read (other .image)) (own .buffer call)) answer) i;
+            (buffers ∙ ap (λ (a : Answer). cond (not (own .writes call) && own .accepts call a) (read (other .image)) (own .buffer call)) answer) i;
       }
     where
       every-same : (hosts : List ℕ) → Every (λ host. protects host ≡ true) hosts
@@ -76,10 +76,10 @@ module _ {Call Lock Answer : Type 0} (rules : Side → Rules Call Lock Answer) (
       let pieces : Bool → List ℕ → List (List ℕ) = λ b image.
       cond b (unprotectedPieces protects (own .hosts call) (cond b (read image) (own .buffer call))) (cond b (read image) (own .buffer call) ∷ []) in
       let shown =
-      test-cases (λ b. pieces b (model .image) ≡ pieces b (other .image)) (own .accepts call given && not (own .writes call))
+      test-cases (λ b. pieces b (model .image) ≡ pieces b (other .image)) (not (own .writes call) && own .accepts call given)
       (λ e.
       pieces-same protects (own .shown call) (lawful outer .shownSized call) (model .image) (other .image) (s .sameLength)
       (λ host free. s .sameSector host (ap not free)) (own .hosts call)
-      (lawful outer .fitting call (at outer (model .held)) (length (model .image)) (both-true _ _ e .0) .inside))
+      (lawful outer .fitting call (at outer (model .held)) (length (model .image)) (both-true (not (own .writes call)) _ e .1) .inside))
       (λ e. refl) in
-      λ i. (answer i, (shown ∙ ap (λ (a : Answer). pieces (own .accepts call a && not (own .writes call)) (other .image)) answer) i)
+      λ i. (answer i, (shown ∙ ap (λ (a : Answer). pieces (not (own .writes call) && own .accepts call a) (other .image)) answer) i)

@@ -2,16 +2,12 @@
 use Prim.Native.Nat.{ℕ}
 use mathlib.Core.Path.{_≡_, refl, sym, ap, ap₂, _∙_, subst}
 use mathlib.Core.Bool.{true, false}
-use mathlib.Core.List.{List, [], _∷_}
+use mathlib.Core.List.{List, [], _∷_, map}
 use Rattle.model.specs.Sectors.{sectorAt, gather}
-use Rattle.model.specs.Model.{Rules, State, Reply, reply, next, replies, final, contents}
+use Rattle.model.specs.Model.{Rules, State, stateWith, Reply, reply, next, replies, final, contents}
 use Rattle.model.specs.Runs.{Run, done, step}
 use Rattle.model.proofs.CallLaws.{last-write, reads-left}
 use Rattle.model.proofs.Lawful.{Lawful}
-
--- a model's state with what the code holds for its lock
-unfoldable pub stateWith : {Lock Held : Type 0} → (Lock → Held) → State Lock → State Held
-stateWith view model = record { image = model .image; held = view (model .held) }
 
 -- where every call has a step from every state, every list of calls has a run
 pub run-exists : {State Call Given : Type 0} (Step : State → Call → Given → State → Type 0)
@@ -22,6 +18,17 @@ run-exists Step exists state (call ∷ calls) =
     let one = exists state call in
     let rest = run-exists Step exists (one .1) calls in
     (one .0 ∷ rest .0, rest .1, step (one .2) (rest .2))
+
+-- where every step is one of another kind, as long as something holds of the state, so is every run
+pub run-carries : {State Other Call Given Told : Type 0} (Step : State → Call → Given → State → Type 0) (Step′ : Other → Call → Told → Other → Type 0)
+    (become : State → Other) (tell : Given → Told) (Holds : State → Type 0)
+    → ((state after : State) (call : Call) (given : Given) → Holds state → Step state call given after
+    → Step′ (become state) call (tell given) (become after) × Holds after)
+    → {state last : State} {calls : List Call} {answers : List Given} → Holds state → Run Step state calls answers last
+    → Run Step′ (become state) calls (map tell answers) (become last)
+run-carries Step Step′ become tell Holds carries h done = done
+run-carries Step Step′ become tell Holds carries h (step {state = state} {next = next} {call = call} {given = given} one rest) =
+    let first = carries state next call given h one in step (first .0) (run-carries Step Step′ become tell Holds carries (first .1) rest)
 
 module _ {Call Lock Answer Held : Type 0} where
   -- a step is the model's: it gives the model's reply, and leaves the model's next state

@@ -106,10 +106,10 @@ module _ {Call Lock Answer : Type 0} (rules : Side → Rules Call Lock Answer) (
               let before = sectorAt host (model .image) in
               let piece = pieceFor (own .stored (t .call)) host (own .hosts (t .call)) (own .buffer (t .call)) before in
               sector-next both lawfully t model host
-              ∙ test-cases (λ b. cond b piece before ≡ before) (own .accepts (t .call) (own .judge (t .call) lock size) && own .writes (t .call))
+              ∙ test-cases (λ b. cond b piece before ≡ before) (own .writes (t .call) && own .accepts (t .call) (own .judge (t .call) lock size))
               (λ moves.
-              let both = both-true _ _ moves in
+              let both = both-true (own .writes (t .call)) _ moves in
               piece-absent (own .stored (t .call)) host (own .hosts (t .call)) (own .buffer (t .call)) before
-              (absent-other side (t .side) (t .call) lock size host e h (both .0) (both .1)))
+              (absent-other side (t .side) (t .call) lock size host e h (both .1) (both .0)))
               (λ stays. refl);
         }

@@ -25,6 +25,10 @@ pub record State (Held : Type 0) : Type 0 where
   pub image : List ℕ
   pub held : Held
 
+-- a state with something else for what is held
+unfoldable pub stateWith : {Held Other : Type 0} → (Held → Other) → State Held → State Other
+stateWith other state = record { image = state .image; held = other (state .held) }
+
 -- what a call answers, and its buffer as the call left it
 pub record Reply (Answer : Type 0) : Type 0 where
   pub answer : Answer
@@ -38,18 +42,18 @@ module _ {Call Lock Answer : Type 0} (rules : Rules Call Lock Answer) where
   -- its buffer after a call with this answer: an accepted read fills it with the covered sectors
   unfoldable pub bufferAfter : Call → Answer → List ℕ → List ℕ
   bufferAfter call answer image =
-      cond (rules .accepts call answer && not (rules .writes call))
+      cond (not (rules .writes call) && rules .accepts call answer)
       (gather (λ host. rules .shown call host (sectorAt host image)) (rules .hosts call)) (rules .buffer call)
 
   -- the image after it: an accepted write lays its buffer into the covered sectors
   unfoldable pub imageAfter : Call → Answer → List ℕ → List ℕ
   imageAfter call answer image =
-      cond (rules .accepts call answer && rules .writes call) (lay (rules .stored call) (rules .hosts call) (rules .buffer call) image) image
+      cond (rules .writes call && rules .accepts call answer) (lay (rules .stored call) (rules .hosts call) (rules .buffer call) image) image
 
   -- .. and so one sector after it
   unfoldable pub sectorAfter : ℕ → Call → Answer → List ℕ → List ℕ
   sectorAfter host call answer before =
-      cond (rules .accepts call answer && rules .writes call)
+      cond (rules .writes call && rules .accepts call answer)
       (pieceFor (rules .stored call) host (rules .hosts call) (rules .buffer call) before) before
 
   -- the reply to a call, and the model after it

@@ -46,6 +46,10 @@ unfoldable pub put : {A : Type 0} → Side → A → Both A → Both A
 put outer one both = record { outerOne = one; hiddenOne = both .hiddenOne }
 put hidden one both = record { outerOne = both .outerOne; hiddenOne = one }
 
+-- something else on each side
+unfoldable pub eachWith : {A B : Type 0} → (Side → A → B) → Both A → Both B
+eachWith other both = record { outerOne = other outer (both .outerOne); hiddenOne = other hidden (both .hiddenOne) }
+
 -- a call that keeps its contract: it finds its view as its side's last call left it, and the image as the last call on either side did
 pub record OnSide {Held Call Given : Type 0} (Step : State Held → Call → Given → State Held → Type 0)
     (state : State (Both Held)) (call : Turn Call) (given : Given) (after : State (Both Held)) : Type 0 where
@@ -84,5 +88,5 @@ unprotectedPieces protects (host ∷ hosts) buffer =
 unfoldable pub unprotected : {Call Lock Answer : Type 0} → Rules Call Lock Answer → (ℕ → Bool) → Call → Reply Answer → Answer × List (List ℕ)
 unprotected rules protects call given = (
   given .answer,
-  cond (rules .accepts call (given .answer) && not (rules .writes call)) (unprotectedPieces protects (rules .hosts call) (given .buffer)) (given .buffer ∷ []),
+  cond (not (rules .writes call) && rules .accepts call (given .answer)) (unprotectedPieces protects (rules .hosts call) (given .buffer)) (given .buffer ∷ []),
 )
