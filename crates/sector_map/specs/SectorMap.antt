@@ -1,7 +1,7 @@
 -- The sector map (RULES.md, Sector map): user sectors, host sectors and tweaks of a layout. Sectors have 512 bytes.
 -- What the contracts of `sector_map` cite. Assumes nothing.
 use Prim.Native.Nat.{ℕ, _+_, _-_, _/_}
-use mathlib.Core.Bool.{_&&_, cond}
+use mathlib.Core.Bool.{_&&_}
 use mathlib.Core.List.{List, _++_}
 use lib.Dec.{leb, ltb}
 use lib.ListN.{replicate}
@@ -9,6 +9,7 @@ use Rattle.numbers.specs.Numbers.{littleEndianBytes}
 use Rattle.layout.specs.Rules.{sectorBytes}
 use Rattle.layout.specs.Soundness.{sound}
 use Rattle.layout.specs.declared.Layout.{Layout}
+use Rattle.answers.specs.Answers.{line}
 use Rattle.answers.specs.declared.Numbered.{Numbered}
 use Rattle.answers.specs.declared.Numbered.the-variants.{Number, Refused}
 use Rattle.sector_map.specs.declared.Tweak.{Tweak}
@@ -23,19 +24,18 @@ firstSector layout = layout .«data_start» / sectorBytes
 
 -- the count of sectors, of a sound layout
 unfoldable pub sectorCount : Layout → Numbered
-sectorCount layout = cond (sound layout) (Number (sectors layout)) (Refused 11)
+sectorCount layout = line (Refused 11) (sound layout) (Number (sectors layout))
 
 -- the host sector of a user sector u below V/512: O/512+u
 unfoldable pub hostSector : Layout → ℕ → Numbered
 hostSector layout user =
-    cond (sound layout) (cond (ltb user (sectors layout)) (Number (firstSector layout + user)) (Refused 16)) (Refused 11)
+    line (Refused 11) (sound layout) (line (Refused 16) (ltb user (sectors layout)) (Number (firstSector layout + user)))
 
 -- the way back: the user sector that a host sector holds, if the data area has it
 unfoldable pub userSector : Layout → ℕ → Numbered
 userSector layout host =
-    cond (sound layout)
-    (cond (leb (firstSector layout) host && ltb host (firstSector layout + sectors layout)) (Number (host - firstSector layout)) (Refused 16))
-    (Refused 11)
+    line (Refused 11) (sound layout)
+    (line (Refused 16) (leb (firstSector layout) host && ltb host (firstSector layout + sectors layout)) (Number (host - firstSector layout)))
 
 -- the tweak number of a user sector: its host sector's, which counts from the first sector of the host in a hidden volume as well
 unfoldable pub tweakNumber : Layout → ℕ → Numbered

@@ -16,14 +16,18 @@ returns c = simp (sym (c .before .is-sound .ensures) ∙ not-true _ (c .if1 .tak
 
 returns-2 : tie.Need-returns-2
 unfolding hostSector sectors firstSector
-returns-2 c = simp (sym (c .before .before .before .is-sound .ensures) ∙ not-false _ (c .before .before .if1 .left), le-ltb _ _ (c .if2 .taken))
+returns-2 c =
+    let kept = c .before .before in
+    simp (sym (kept .before .is-sound .ensures) ∙ not-false _ (kept .if1 .left), le-ltb _ _ (c .if2 .taken))
 
 add-t6 : tie.Need-add-t6
 add-t6 c = search needs
 
 returns-3 : tie.Need-returns-3
 unfolding hostSector sectors firstSector
-returns-3 c = simp (sym (c .before .before .before .before .is-sound .ensures) ∙ not-false _ (c .before .before .before .if1 .left), lt-ltb _ _ (c .before .if2 .left))
+returns-3 c =
+    let kept = c .before .before .before in
+    simp (sym (kept .before .is-sound .ensures) ∙ not-false _ (kept .if1 .left), lt-ltb _ _ (c .before .if2 .left))
 
 pub host-sector-spec : {M : Type 1} → statement M
 host-sector-spec = tie.close (tie.spec is-sound-requires returns returns-2 add-t6 returns-3)

@@ -6,8 +6,7 @@ use native.Mathlib.Omega.{arith}
 use Rattle.answers.specs.declared.Numbered.{Numbered}
 use Rattle.sector_map.specs.declared.Tweak.{Tweak}
 use Rattle.answers.specs.declared.Numbered.the-variants.{Number}
-use mathlib.Core.Path.{ap}
-use mathlib.Core.Path.{sym, _∙_}
+use mathlib.Core.Path.{ap, sym, _∙_}
 use Rattle.numbers.proofs.WrittenLaws.{little-endian-bytes-pad}
 use Rattle.sector_map.specs.SectorMap.{tweakOf, blockOf}
 use borrow.Author.Needs.{needs}
@@ -36,9 +35,11 @@ enum-told c = search needs
 returns : tie.Need-returns
 unfolding tweakOf blockOf
 returns c =
-    let told = c .before .before .before .before .number .given in
-    let small : told .0 .0 < 256 ^ 8 = omega (arith, c .before .before .before .known-told .given) in
-    rw (sym (c .before .before .before .before .before .before .tweak-number .ensures) ∙ told .1)
+    let known = c .before .before .before in
+    let numbered = known .before in
+    let told = numbered .number .given in
+    let small : told .0 .0 < 256 ^ 8 = omega (arith, known .known-told .given) in
+    rw (sym (numbered .before .before .tweak-number .ensures) ∙ told .1)
     (ap (tweak (Number (told .0 .0))) (c .before .write-little-endian .ensures ∙ little-endian-bytes-pad 8 8 (told .0 .0) small))
 
 returns-2 : tie.Need-returns-2
