@@ -7,7 +7,7 @@ use mathlib.Core.Logic.{_⊎_, inl, inr, ⊎-elim}
 use mathlib.Core.Bool.{Bool, true, _&&_, cond, and-assoc}
 use mathlib.Core.List.{List}
 use lib.Dec.{eqb}
-use Rattle.layout.specs.Rules.{standard, hidden, placeRule, dataAreaRule}
+use Rattle.layout.specs.Rules.{standard, hidden, placeRule, sectorsRule, dataAreaRule}
 use Rattle.header.specs.Bytes.{part, allZero}
 use Rattle.layout.specs.declared.Layout.{Layout}
 use Rattle.header.specs.Header.{fieldsOf, acceptedLayout}
@@ -78,7 +78,7 @@ module _ (kind hostSize : ℕ) (h : List ℕ) where
 -- the last line, of a layout: no other kind passes it
 pub area-reflects : (layout : Layout) (encryptedSize : ℕ)
     → Reflects (KnownKind (layout .kind) × DataArea layout encryptedSize) (areaRule layout encryptedSize)
-unfolding areaRule dataAreaRule placeRule
+unfolding areaRule dataAreaRule sectorsRule placeRule
 area-reflects layout encryptedSize =
     let start = layout .«data_start» in
     let size = layout .«data_size» in

@@ -8,7 +8,7 @@ use borrow.Author.Tests.{leb-true, lt-leb}
 use lib.Dec.{leb, eqb}
 use Rattle.layout.specs.Soundness.{sound}
 use Rattle.layout.specs.declared.Layout.{Layout}
-use Rattle.layout.specs.Rules.{standard, hidden, sectorBytes, headersSize, minHostSize, maxHostSize, hostSizeRule, placeRule, dataAreaRule}
+use Rattle.layout.specs.Rules.{standard, hidden, sectorBytes, headersSize, minHostSize, maxHostSize, hostSizeRule, placeRule, sectorsRule, dataAreaRule}
 
 pub and-true-left : (a b : Bool) → (a && b) ≡ true → a ≡ true
 and-true-left true b h = refl
@@ -71,11 +71,7 @@ module _ (layout : Layout) (kept : sound layout ≡ true) where
   -- the data area ends before the backup headers
   pub sound-ends : layout .«data_start» + layout .«data_size» + headersSize ≤ layout .«host_size»
   unfolding dataAreaRule
-  sound-ends =
-      let start = layout .«data_start» in
-      let size = layout .«data_size» in
-      place-ends layout
-      (and-true-right (leb sectorBytes size && eqb (size % sectorBytes) 0 && eqb (start % sectorBytes) 0) (placeRule layout) sound-data-area)
+  sound-ends = place-ends layout (and-true-right (sectorsRule layout) (placeRule layout) sound-data-area)
 
   -- so its end is far below 2^64
   pub sound-end-le : layout .«data_start» + layout .«data_size» ≤ maxHostSize

@@ -42,8 +42,11 @@ placeRule layout =
     cond (eqb (layout .kind) standard) (eqb start headersSize && leb (end + headersSize) (layout .«host_size»))
     (eqb (layout .kind) hidden && (leb headersSize start && leb (end + headersSize) (layout .«host_size»)))
 
--- line 10 of a header's rules (RULES.md, Header bytes) with E taken as V: whole sectors and at least one, from a sector's start, in their place
-unfoldable pub dataAreaRule : Layout → Bool
-dataAreaRule layout =
+-- whole sectors, at least one, from a sector's start on
+unfoldable pub sectorsRule : Layout → Bool
+sectorsRule layout =
     leb sectorBytes (layout .«data_size») && eqb (layout .«data_size» % sectorBytes) 0 && eqb (layout .«data_start» % sectorBytes) 0
-    && placeRule layout
+
+-- line 10 of a header's rules (RULES.md, Header bytes) with E taken as V
+unfoldable pub dataAreaRule : Layout → Bool
+dataAreaRule layout = sectorsRule layout && placeRule layout

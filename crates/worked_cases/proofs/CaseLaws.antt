@@ -4,7 +4,7 @@ use mathlib.Core.Path.{_≡_, refl}
 use mathlib.Core.List.{map}
 use Rattle.numbers.specs.Numbers.{bigEndian, bigEndianFrom, littleEndian, littleEndianBytes}
 use Rattle.crc32.specs.Crc32.{crc32, crcFrom, bitSteps, bitStep}
-use Rattle.layout.specs.Rules.{hostSizeRule, placeRule, dataAreaRule}
+use Rattle.layout.specs.Rules.{hostSizeRule, placeRule, sectorsRule, dataAreaRule}
 use Rattle.layout.specs.Soundness.{sound}
 use Rattle.header.specs.Bytes.{sameBytes, allZero}
 use Rattle.header.specs.Header.{magicOf, fieldsOf, checksumsMatch, isHeader, acceptedLayout, answer, judge}
@@ -24,7 +24,7 @@ table : map (λ (c : Case). c .answer) cases ≡ map (λ (c : Case). c .expected
 unfolding cases opens toldOf headerWith fieldBytes bytesOf volumeM volumeN mappedTold tweakTold
     opened lengthsRule codesRule codeRule hostSizeRule searchFrom firstRefusal judgements candidateAt locationOf locations
     judge isHeader magicOf fieldsOf checksumsMatch sameBytes allZero answer acceptedLayout
-    firstBroken versionRule reservedRule flagsRule sectorSizeRule hiddenSizeRule areaRule dataAreaRule placeRule
+    firstBroken versionRule reservedRule flagsRule sectorSizeRule hiddenSizeRule areaRule dataAreaRule sectorsRule placeRule
     crc32 crcFrom bitStep bitSteps bigEndian bigEndianFrom littleEndian
     hostSector userSector tweakNumber tweakOf blockOf sectors firstSector sound littleEndianBytes
     onView writing reading leaving plainView protectedView plainOf protectedOf nests areaEnd protectionRule soundView

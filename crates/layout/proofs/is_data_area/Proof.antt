@@ -2,22 +2,22 @@
 -- Assumes nothing.
 use borrow.Author.Needs.{needs}
 use borrow.Author.Tests.{eq-eqb, ne-eqb, le-leb, lt-leb}
-use Rattle.layout.specs.Rules.{dataAreaRule}
+use Rattle.layout.specs.Rules.{sectorsRule, dataAreaRule}
 use Rattle.layout.proofs.is_data_area.Statement.{statement}
 use Rattle.layout.proofs.is_data_area.Tie as tie
 
 returns : tie.Need-returns
-unfolding dataAreaRule
+unfolding dataAreaRule sectorsRule
 returns c = simp (lt-leb _ _ (c .if1 .taken))
 
 returns-2 : tie.Need-returns-2
-unfolding dataAreaRule
+unfolding dataAreaRule sectorsRule
 returns-2 c =
     let some = c .before .before in
     simp (le-leb _ _ (some .if1 .left), ne-eqb _ _ (c .if2 .taken))
 
 returns-3 : tie.Need-returns-3
-unfolding dataAreaRule
+unfolding dataAreaRule sectorsRule
 returns-3 c =
     let whole = c .before .before in
     let some = whole .before .before in
@@ -27,7 +27,7 @@ is-in-place-requires : tie.Need-is-in-place-requires
 is-in-place-requires c κs = search needs
 
 returns-4 : tie.Need-returns-4
-unfolding dataAreaRule
+unfolding dataAreaRule sectorsRule
 returns-4 c =
     let aligned = c .before in
     let whole = aligned .before .before in
