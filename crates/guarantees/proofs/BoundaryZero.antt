@@ -7,16 +7,17 @@ use mathlib.Core.Logic.{_↔_}
 use mathlib.Core.Bool.{Bool, true, false, _&&_, cond}
 use mathlib.Core.List.{List}
 use lib.Dec.{leb, ltb, eqb}
+use lib.ListN.{length}
 use borrow.Author.Tests.{eqb-true}
-use Rattle.answers.specs.Answers.{numberedRefusal}
+use Rattle.answers.specs.Answers.{line, numberedRefusal}
 use Rattle.layout.specs.Opened.{openedRefusal}
 use Rattle.layout.specs.Rules.{hostSizeRule}
 use Rattle.layout.specs.Soundness.{sound}
 use Rattle.layout.specs.declared.Layout.{Layout}
 use Rattle.layout.specs.declared.Opened.{Opened}
 use Rattle.layout.specs.declared.Opened.the-variants.{Accepted, Refused}
-use Rattle.opening.specs.Locations.{codeRule, located}
-use Rattle.opening.specs.Opening.{judgements, searchFrom, opened}
+use Rattle.locations.specs.Locations.{codeRule, located}
+use Rattle.opening.specs.Opening.{searched, opened}
 use Rattle.sector_map.specs.SectorMap.{sectors, firstSector, hostSector, userSector}
 use Rattle.answers.specs.declared.Numbered.the-variants.{Number}
 use Rattle.view.specs.Access.{answered}
@@ -75,15 +76,15 @@ protected-view-zero outer hiddenLayout =
 
 module _ (candidates codes : List ℕ) (hostSize : ℕ) where
   -- what the search finds is never refused by 0: a line's number is at least 5
-  found-zero : {answer : Opened} → Found candidates codes hostSize answer → ZeroAccepts openedRefusal Accepted answer
+  found-zero : {answer : Opened} → Found candidates codes hostSize (length codes) answer → ZeroAccepts openedRefusal Accepted answer
   unfolding openedRefusal
   found-zero (anAccepted i layout r told) = zero-accepted layout (λ other. refl)
-  found-zero (aHeader f i line h) = zero-refused (Refused (number line)) (λ other. refl) (omega (arith, number-bounds line))
+  found-zero (aHeader f i broken h) = zero-refused (Refused (number broken)) (λ other. refl) (omega (arith, number-bounds broken))
   found-zero (noHeader f g) = zero-refused (Refused 4) (λ other. refl) (omega arith)
 
   opened-zero-by : {a b c : Bool} → Reflects (Lengths candidates codes) a → Reflects (Codes codes) b → Reflects (HostSize hostSize) c
       → ZeroAccepts openedRefusal Accepted
-      (cond a (cond b (cond c (searchFrom 4 (judgements candidates hostSize 0 codes)) (Refused 3)) (Refused 2)) (Refused 1))
+      (line (Refused 1) a (line (Refused 2) b (line (Refused 3) c (searched candidates hostSize codes))))
   unfolding openedRefusal
   opened-zero-by (holds l) (holds k) (holds s) = found-zero (search-says candidates codes hostSize (record { lengths = l; codesKnown = k; size = s }))
   opened-zero-by (holds l) (holds k) (fails f) = zero-refused (Refused 3) (λ other. refl) (omega arith)

@@ -7,7 +7,7 @@ use mathlib.Core.Logic.{inl, inr}
 use mathlib.Core.List.{List}
 use lib.ListN.{length, getD, length-take, length-drop}
 use Rattle.header.specs.Header.{judge}
-use Rattle.opening.specs.Locations.{locations, locationOf}
+use Rattle.locations.specs.Locations.{locations, locationOf}
 use Rattle.opening.specs.Opening.{candidateAt}
 use Rattle.guarantees.specs.Header.{KnownKind}
 use Rattle.guarantees.specs.Opening.{Lengths, candidate, kindOf}

@@ -3,13 +3,15 @@
 use Prim.Native.Nat.{ℕ, _≤_}
 use native.Mathlib.Omega.{arith}
 use mathlib.Core.Path.{_≡_}
-use mathlib.Core.Bool.{Bool, cond}
+use mathlib.Core.Bool.{Bool}
 use mathlib.Core.List.{List}
+use lib.ListN.{length}
 use Rattle.layout.specs.declared.Layout.{Layout}
 use Rattle.layout.specs.declared.Opened.{Opened}
 use Rattle.layout.specs.declared.Opened.the-variants.{Accepted, Refused}
-use Rattle.opening.specs.Locations.{locations, locationOf, offsetFrom, located}
-use Rattle.opening.specs.Opening.{judgements, searchFrom, opened}
+use Rattle.locations.specs.Locations.{locations, locationOf, offsetFrom, located}
+use Rattle.opening.specs.Opening.{searched, opened}
+use Rattle.answers.specs.Answers.{line}
 use Rattle.answers.specs.declared.Numbered.the-variants.{Number}
 use Rattle.guarantees.specs.Opening.{Lengths, Codes, HostSize, Allowed, OpensExactlyWhen, LocatesHeaders}
 use Rattle.guarantees.proofs.Reflects.{Reflects, holds, fails, is-true, is-false}
@@ -19,7 +21,7 @@ use Rattle.guarantees.proofs.FoundLaws.{refused-is-not-accepted, found-
 
 module _ (candidates codes : List ℕ) (hostSize : ℕ) where
   -- what opening gives where the tests before any candidate pass
-  opened-says : Allowed candidates codes hostSize → Found candidates codes hostSize (opened candidates codes hostSize)
+  opened-says : Allowed candidates codes hostSize → Found candidates codes hostSize (length codes) (opened candidates codes hostSize)
   unfolding opened
   opened-says a =
       simp (
@@ -30,18 +32,18 @@ module _ (candidates codes : List ℕ) (hostSize : ℕ) where
       (search-says candidates codes hostSize a)
 
   -- .. and where it accepts they pass
-  allowed-by : {layout : Layout} {a b c : Bool} (searched : Opened) → Reflects (Lengths candidates codes) a → Reflects (Codes codes) b
-      → Reflects (HostSize hostSize) c → cond a (cond b (cond c searched (Refused 3)) (Refused 2)) (Refused 1) ≡ Accepted layout
+  allowed-by : {layout : Layout} {a b c : Bool} (answer : Opened) → Reflects (Lengths candidates codes) a → Reflects (Codes codes) b
+      → Reflects (HostSize hostSize) c → line (Refused 1) a (line (Refused 2) b (line (Refused 3) c answer)) ≡ Accepted layout
       → Allowed candidates codes hostSize
-  allowed-by searched (holds l) (holds k) (holds s) e = record { lengths = l; codesKnown = k; size = s }
-  allowed-by searched (holds l) (holds k) (fails f) e = absurd (refused-is-not-accepted e)
-  allowed-by searched (holds l) (fails f) t e = absurd (refused-is-not-accepted e)
-  allowed-by searched (fails f) r t e = absurd (refused-is-not-accepted e)
+  allowed-by answer (holds l) (holds k) (holds s) e = record { lengths = l; codesKnown = k; size = s }
+  allowed-by answer (holds l) (holds k) (fails f) e = absurd (refused-is-not-accepted e)
+  allowed-by answer (holds l) (fails f) t e = absurd (refused-is-not-accepted e)
+  allowed-by answer (fails f) r t e = absurd (refused-is-not-accepted e)
 
   opened-allowed : (layout : Layout) → opened candidates codes hostSize ≡ Accepted layout → Allowed candidates codes hostSize
   unfolding opened
   opened-allowed layout =
-      allowed-by (searchFrom 4 (judgements candidates hostSize 0 codes)) (lengths-reflects candidates codes) (codes-reflects codes)
+      allowed-by (searched candidates hostSize codes) (lengths-reflects candidates codes) (codes-reflects codes)
       (host-size-reflects hostSize)
 
 pub opens-exactly-when : (candidates codes : List ℕ) (hostSize : ℕ) → OpensExactlyWhen candidates codes hostSize

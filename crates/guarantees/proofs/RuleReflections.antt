@@ -4,7 +4,7 @@ use Prim.Native.Nat.{ℕ, _*_, _%_, _^_, _≤_}
 use mathlib.Core.List.{List, [], _∷_}
 use lib.ListN.{length}
 use Rattle.layout.specs.Rules.{hostSizeRule}
-use Rattle.opening.specs.Locations.{codeRule}
+use Rattle.locations.specs.Locations.{codeRule}
 use Rattle.opening.specs.Opening.{lengthsRule, codesRule}
 use Rattle.guarantees.specs.Opening.{Lengths, Codes, HostSize}
 use Rattle.guarantees.proofs.Reflects.{Reflects, reflects-map, reflects-and, reflects-eqb, reflects-leb, reflects-nil, reflects-cons}

@@ -11,7 +11,7 @@ use Rattle.answers.specs.Answers.{numberedRefusal, answerRefusal}
 use Rattle.layout.specs.Opened.{openedRefusal}
 use Rattle.layout.specs.declared.Layout.{Layout}
 use Rattle.layout.specs.declared.Opened.the-variants as opening
-use Rattle.opening.specs.Locations.{located}
+use Rattle.locations.specs.Locations.{located}
 use Rattle.opening.specs.Opening.{opened}
 use Rattle.sector_map.specs.SectorMap.{hostSector, userSector, tweakOf}
 use Rattle.answers.specs.declared.Numbered.the-variants as numbered
@@ -23,10 +23,8 @@ use Rattle.view.specs.declared.Protection.{Protection}
 use Rattle.view.specs.declared.Protection.the-variants.{Unprotected, Protected}
 use Rattle.view.specs.declared.View.{View}
 use Rattle.view.specs.declared.Viewed.the-variants as making
-use Rattle.boundary_numbers.specs.BoundaryNumbers.{layoutFrom, viewFrom, numberedLeft, openedLeft, viewedLeft}
-use Rattle.boundary_opening.specs.BoundaryOpening.{keysLeft}
-use Rattle.boundary_map.specs.BoundaryMap.{blockLeft}
-use Rattle.boundary_access.specs.BoundaryAccess.{WriteCall}
+use Rattle.ondristela.specs.Boundary.{layoutFrom, viewFrom, WriteCall}
+use Rattle.ondristela.specs.Boundary.{numberedLeft, openedLeft, keysLeft, numberedLeft, blockLeft, viewedLeft}
 
 -- every refusal is told by its own number, and every acceptance by 0
 pub record TellsNumbers : Type 0 where

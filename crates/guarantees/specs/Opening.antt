@@ -7,7 +7,7 @@ use mathlib.Core.List.{List}
 use lib.ListN.{length, getD}
 use Rattle.layout.specs.declared.Layout.{Layout}
 use Rattle.layout.specs.declared.Opened.the-variants.{Accepted, Refused}
-use Rattle.opening.specs.Locations.{located}
+use Rattle.locations.specs.Locations.{located}
 use Rattle.opening.specs.Opening.{opened}
 use Rattle.answers.specs.declared.Numbered.the-variants as numbered
 use Rattle.guarantees.specs.Header.{bytesAt, IsHeader, Line, number, Keeps, FirstBroken, Tells}

@@ -1,24 +1,34 @@
--- The largest of the codes decides for all of them.
+-- The rule for the codes, one at a time as a loop over an index goes through them: the largest decides for all.
 -- Assumes nothing.
-use Prim.Native.Nat.{ℕ, _+_, _≤_, _<_}
+use Prim.Native.Nat.{ℕ, zero, suc, _+_, _≤_, _<_}
+use native.Mathlib.Nat.{not-suc-le-zero, le-of-suc-le-suc}
+use native.Mathlib.Numerals.{add-one}
 use native.Mathlib.Omega.{arith}
 use mathlib.Core.Path.{_≡_, refl, sym, ap, _∙_}
-use mathlib.Core.Bool.{Bool, true, false, _&&_}
-use mathlib.Core.List.{List}
+use mathlib.Core.Bool.{Bool, true, false, _&&_, and-assoc, and-true}
+use mathlib.Core.List.{List, [], _∷_}
 use lib.Dec.{leb}
-use lib.ListN.{length, getD, drop}
+use lib.ListN.{length, getD, drop, drop-of-length-le}
+use lib.Seq.{drop-cons}
 use borrow.Author.Tests.{leb-true, le-leb}
-use Rattle.opening.specs.Locations.{codeRule}
+use Rattle.layout.proofs.RuleLaws.{and-true-left, and-true-right}
+use Rattle.locations.specs.Locations.{codeRule}
 use Rattle.opening.specs.Opening.{codesRule}
-use Rattle.opening.proofs.SearchLaws.{codes-rule-drop, codes-rule-end}
 
-and-assoc : (a b c : Bool) → ((a && b) && c) ≡ (a && (b && c))
-and-assoc true b c = refl
-and-assoc false b c = refl
+codes-rule-drop : (codes : List ℕ) (i : ℕ) → i < length codes
+    → codesRule (drop i codes) ≡ (codeRule (getD codes i 0) && codesRule (drop (i + 1) codes))
+unfolding codesRule
+codes-rule-drop codes i h = rw (add-one, drop-cons codes i 0)
 
-and-true : (a : Bool) → (a && true) ≡ a
-and-true true = refl
-and-true false = refl
+codes-rule-end : (codes : List ℕ) (i : ℕ) → length codes ≤ i → codesRule (drop i codes) ≡ true
+unfolding codesRule
+codes-rule-end codes i h = rw (drop-of-length-le codes h)
+
+pub codes-rule-at : (codes : List ℕ) (i : ℕ) → i < length codes → codesRule codes ≡ true → getD codes i 0 ≤ 3
+unfolding codesRule codeRule
+codes-rule-at [] i h e = absurd (not-suc-le-zero h)
+codes-rule-at (code ∷ codes) zero h e = leb-true code 3 (and-true-left (leb code 3) (codesRule codes) e)
+codes-rule-at (code ∷ codes) (suc i) h e = codes-rule-at codes i (le-of-suc-le-suc h) (and-true-right (leb code 3) (codesRule codes) e)
 
 below-both : (a t : Bool) → (t ≡ true → a ≡ true) → t ≡ (a && t)
 below-both true t f = refl
@@ -41,12 +51,9 @@ larger-first a b h = above-both (leb a 3) (leb b 3) (λ e. le-leb b 3 (omega (ar
 -- a turn of the loop over the codes
 pub codes-step : (codes : List ℕ) (i largest next : ℕ) → i < length codes → codeRule next ≡ (codeRule largest && codeRule (getD codes i 0))
     → (codeRule next && codesRule (drop (i + 1) codes)) ≡ (codeRule largest && codesRule (drop i codes))
-unfolding codeRule
 codes-step codes i largest next h e =
-    ap (λ (t : Bool). t && codesRule (drop (i + 1) codes)) e
-    ∙ and-assoc (leb largest 3) (leb (getD codes i 0) 3) (codesRule (drop (i + 1) codes))
-    ∙ ap (λ (t : Bool). leb largest 3 && t) (sym (codes-rule-drop codes i h))
+    rw (e, codes-rule-drop codes i h, and-assoc (codeRule largest) (codeRule (getD codes i 0)) (codesRule (drop (i + 1) codes)))
 
 -- the loop's end: no code is left
 pub codes-end : (codes : List ℕ) (i largest : ℕ) → length codes ≤ i → (codeRule largest && codesRule (drop i codes)) ≡ codeRule largest
-codes-end codes i largest h = ap (λ (t : Bool). codeRule largest && t) (codes-rule-end codes i h) ∙ and-true (codeRule largest)
+codes-end codes i largest h = rw (codes-rule-end codes i h, and-true (codeRule largest))

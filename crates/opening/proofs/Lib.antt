@@ -1,4 +1,3 @@
 pub mod CodeLaws
-pub mod LocationLaws
 pub mod OpenedLaws
 pub mod SearchLaws

@@ -4,19 +4,20 @@ use Prim.Native.Nat.{ℕ, suc, _+_, _*_, _≤_, _<_}
 use native.Mathlib.Omega.{arith}
 use mathlib.Core.Path.{_≡_, refl}
 use mathlib.Core.Bool.{Bool, true, false, _&&_, cond}
-use mathlib.Core.List.{List, [], _∷_}
+use mathlib.Core.List.{List, [], _∷_, foldl}
 use lib.Dec.{leb, eqb}
 use lib.ListN.{length}
 use borrow.Author.Tests.{leb-true, eqb-true}
+use Rattle.answers.specs.Answers.{line}
 use Rattle.layout.specs.Rules.{hostSizeRule}
 use Rattle.layout.specs.declared.Layout.{Layout}
 use Rattle.layout.specs.declared.Opened.{Opened}
 use Rattle.layout.specs.declared.Opened.the-variants.{Accepted, Refused}
 use Rattle.layout.proofs.RuleLaws.{and-true-left, and-true-right}
+use Rattle.locations.specs.Locations.{locationOf}
 use Rattle.header.specs.Header.{headerBytes, judge}
 use Rattle.header.proofs.JudgeLaws.{refused-accepted, judge-candidate}
-use Rattle.opening.specs.Locations.{locationOf}
-use Rattle.opening.specs.Opening.{maxCandidates, lengthsRule, codesRule, candidateAt, judgements, firstRefusal, searchFrom, opened, keysOffset}
+use Rattle.opening.specs.Opening.{maxCandidates, lengthsRule, codesRule, candidateAt, judgements, further, searched, opened, keysOffset}
 
 module _ (candidates codes : List ℕ) (kept : lengthsRule candidates codes ≡ true) where
   pub lengths-most : length codes ≤ maxCandidates
@@ -34,45 +35,46 @@ module _ (candidates codes : List ℕ) (kept : lengthsRule candidates codes ≡ 
       (and-true-right (leb 1 (length codes) && leb (length codes) maxCandidates) (eqb (length candidates) (length codes * headerBytes)) kept)
 
 module _ (candidates : List ℕ) (hostSize : ℕ) (layout : Layout) where
-  -- one judgement decides, or leaves it to the rest
-  decided : (index first : ℕ) (codes : List ℕ) (o : Opened) → ((l : Layout) → o ≡ Accepted l → index ≡ l .candidate)
-      → ((later : ℕ) → searchFrom later (judgements candidates hostSize (suc index) codes) ≡ Accepted layout → layout .candidate < suc index + length codes)
-      → searchFrom first (o ∷ judgements candidates hostSize (suc index) codes) ≡ Accepted layout → layout .candidate < index + suc (length codes)
-  unfolding searchFrom
-  decided index first codes (Accepted l) own rest e =
-      let same : index ≡ layout .candidate = own layout e in
-      omega arith
-  decided index first codes (Refused number) own rest e =
-      let later : layout .candidate < suc index + length codes = rest (firstRefusal first number) e in
-      omega arith
+  -- an acceptance is the one so far, or that of the next candidate
+  further-inside : (index : ℕ) (answer next : Opened) → (answer ≡ Accepted layout → layout .candidate < index)
+      → (next ≡ Accepted layout → index ≡ layout .candidate) → further answer next ≡ Accepted layout → layout .candidate < suc index
+  unfolding further
+  further-inside index (Accepted l) next before own e = omega (arith, before e)
+  further-inside index (Refused number) (Accepted l) before own e = omega (arith, own e)
+  further-inside index (Refused number) (Refused later) before own e = absurd (refused-accepted (cond (eqb number 4) later number) layout e)
 
-  search-inside : (index first : ℕ) (codes : List ℕ) → searchFrom first (judgements candidates hostSize index codes) ≡ Accepted layout
-      → layout .candidate < index + length codes
-  unfolding judgements searchFrom
-  search-inside index first [] e = absurd (refused-accepted first layout e)
-  search-inside index first (code ∷ codes) e =
-      decided index first codes (judge (locationOf code .kind) hostSize index (candidateAt index candidates))
-      (judge-candidate (locationOf code .kind) hostSize index (candidateAt index candidates))
-      (λ later. search-inside (suc index) later codes) e
+  search-inside : (index : ℕ) (answer : Opened) (codes : List ℕ) → (answer ≡ Accepted layout → layout .candidate < index)
+      → foldl further answer (judgements candidates hostSize index codes) ≡ Accepted layout → layout .candidate < index + length codes
+  unfolding judgements
+  search-inside index answer [] before e = omega (arith, before e)
+  search-inside index answer (code ∷ codes) before e =
+      let next = judge (locationOf code .kind) hostSize index (candidateAt index candidates) in
+      let own = judge-candidate (locationOf code .kind) hostSize index (candidateAt index candidates) layout in
+      omega (arith, search-inside (suc index) (further answer next) codes (further-inside index answer next before own) e)
+
+  pub searched-inside : (codes : List ℕ) → searched candidates hostSize codes ≡ Accepted layout → layout .candidate < length codes
+  unfolding searched
+  searched-inside codes e = omega (arith, search-inside 0 (Refused 4) codes (λ r. absurd (refused-accepted 4 layout r)) e)
 
   -- only the last of four answers accepts
-  reached : (a b c : Bool) (o : Opened) → cond a (cond b (cond c o (Refused 3)) (Refused 2)) (Refused 1) ≡ Accepted layout → (a ≡ true) × (o ≡ Accepted layout)
+  reached : (a b c : Bool) (o : Opened) → line (Refused 1) a (line (Refused 2) b (line (Refused 3) c o)) ≡ Accepted layout
+      → (a ≡ true) × (o ≡ Accepted layout)
   reached true true true o e = (refl, e)
   reached true true false o e = absurd (refused-accepted 3 layout e)
   reached true false c o e = absurd (refused-accepted 2 layout e)
   reached false b c o e = absurd (refused-accepted 1 layout e)
 
   found : (codes : List ℕ) → opened candidates codes hostSize ≡ Accepted layout
-      → (lengthsRule candidates codes ≡ true) × (searchFrom 4 (judgements candidates hostSize 0 codes) ≡ Accepted layout)
+      → (lengthsRule candidates codes ≡ true) × (searched candidates hostSize codes ≡ Accepted layout)
   unfolding opened
-  found codes e = reached (lengthsRule candidates codes) (codesRule codes) (hostSizeRule hostSize) (searchFrom 4 (judgements candidates hostSize 0 codes)) e
+  found codes e = reached (lengthsRule candidates codes) (codesRule codes) (hostSizeRule hostSize) (searched candidates hostSize codes) e
 
   -- the accepted candidate lies whole in the candidates, and they are few
   pub opened-inside : (codes : List ℕ) → opened candidates codes hostSize ≡ Accepted layout
       → (layout .candidate * headerBytes + headerBytes ≤ length candidates) × (length candidates ≤ maxCandidates * headerBytes)
   opened-inside codes e =
       let f = found codes e in
-      let inside : layout .candidate < 0 + length codes = search-inside 0 4 codes (f .1) in
+      let inside : layout .candidate < length codes = searched-inside codes (f .1) in
       let whole : length candidates ≡ length codes * headerBytes = lengths-whole candidates codes (f .0) in
       let most : length codes ≤ maxCandidates = lengths-most candidates codes (f .0) in
       (omega arith, omega arith)
@@ -86,5 +88,6 @@ keys-inside candidates hostSize codes (Accepted layout) e =
 keys-inside candidates hostSize codes (Refused number) e = omega arith
 
 -- the key bytes start within the longest candidates
-pub keys-offset-most : (candidates : List ℕ) (hostSize : ℕ) (codes : List ℕ) → keysOffset (opened candidates codes hostSize) ≤ maxCandidates * headerBytes
+pub keys-offset-most : (candidates : List ℕ) (hostSize : ℕ) (codes : List ℕ)
+    → keysOffset (opened candidates codes hostSize) ≤ maxCandidates * headerBytes
 keys-offset-most candidates hostSize codes = keys-inside candidates hostSize codes (opened candidates codes hostSize) refl

@@ -1,52 +1,57 @@
--- The rules and the search, one candidate at a time, as a loop over an index goes through them.
--- Assumes nothing.
-use Prim.Native.Nat.{ℕ, zero, suc, _+_, _≤_, _<_}
-use native.Mathlib.Nat.{not-suc-le-zero, le-of-suc-le-suc}
+-- The search goes on: over a joined list of codes it goes on from the answer of the first part, so an answer over the first candidates is all
+-- that has to be kept of them. Assumes nothing.
+use Prim.Native.Nat.{ℕ, suc, _+_, _<_}
+use native.Mathlib.Nat.{add-zero, zero-add, add-suc, suc-add}
 use native.Mathlib.Numerals.{add-one}
-use mathlib.Core.Path.{_≡_}
-use mathlib.Core.Bool.{true, _&&_}
-use mathlib.Core.List.{List, [], _∷_}
-use lib.Dec.{leb}
-use borrow.Author.Tests.{leb-true}
-use Rattle.layout.proofs.RuleLaws.{and-true-left, and-true-right}
-use lib.ListN.{length, getD, drop, drop-of-length-le}
-use lib.Seq.{drop-cons}
+use native.Mathlib.Omega.{arith}
+use mathlib.Core.Path.{_≡_, refl, sym, ap, _∙_}
+use mathlib.Core.List.{List, [], _∷_, _++_, foldl, foldl-append}
+use lib.ListN.{length, getD, take, drop, length-take, take-append-drop}
+use lib.Seq.{take-suc}
 use Rattle.layout.specs.declared.Layout.{Layout}
+use Rattle.layout.specs.declared.Opened.{Opened}
 use Rattle.layout.specs.declared.Opened.the-variants.{Accepted, Refused}
+use Rattle.locations.specs.Locations.{locationOf}
 use Rattle.header.specs.Header.{judge}
-use Rattle.opening.specs.Locations.{locationOf, codeRule}
-use Rattle.opening.specs.Opening.{codesRule, candidateAt, judgements, firstRefusal, searchFrom}
+use Rattle.opening.specs.Opening.{candidateAt, judgements, further, searched}
 
-pub codes-rule-drop : (codes : List ℕ) (i : ℕ) → i < length codes → codesRule (drop i codes) ≡ (leb (getD codes i 0) 3 && codesRule (drop (i + 1) codes))
-unfolding codesRule codeRule
-codes-rule-drop codes i h = rw (add-one, drop-cons codes i 0)
+-- an acceptance stays
+pub accepted-stays : (layout : Layout) (later : List Opened) → foldl further (Accepted layout) later ≡ Accepted layout
+unfolding further
+accepted-stays layout [] = refl
+accepted-stays layout (next ∷ later) = accepted-stays layout later
 
-pub codes-rule-end : (codes : List ℕ) (i : ℕ) → length codes ≤ i → codesRule (drop i codes) ≡ true
-unfolding codesRule
-codes-rule-end codes i h = rw (drop-of-length-le codes h)
+module _ (candidates : List ℕ) (hostSize : ℕ) where
+  judgements-append : (index : ℕ) (codes more : List ℕ)
+      → judgements candidates hostSize index (codes ++ more)
+      ≡ judgements candidates hostSize index codes ++ judgements candidates hostSize (index + length codes) more
+  unfolding judgements
+  judgements-append index [] more = rw add-zero
+  judgements-append index (code ∷ codes) more = rw (judgements-append (suc index) codes more, suc-add, add-suc)
 
-pub codes-rule-at : (codes : List ℕ) (i : ℕ) → i < length codes → codesRule codes ≡ true → getD codes i 0 ≤ 3
-unfolding codesRule codeRule
-codes-rule-at [] i h e = absurd (not-suc-le-zero h)
-codes-rule-at (code ∷ codes) zero h e = leb-true code 3 (and-true-left (leb code 3) (codesRule codes) e)
-codes-rule-at (code ∷ codes) (suc i) h e = codes-rule-at codes i (le-of-suc-le-suc h) (and-true-right (leb code 3) (codesRule codes) e)
+  -- searching a joined list is going on from the answer of its first part
+  pub searched-append : (codes more : List ℕ)
+      → searched candidates hostSize (codes ++ more)
+      ≡ foldl further (searched candidates hostSize codes) (judgements candidates hostSize (length codes) more)
+  unfolding searched
+  searched-append codes more =
+      rw (judgements-append 0 codes more, zero-add)
+      (foldl-append further (Refused 4) (judgements candidates hostSize 0 codes) (judgements candidates hostSize (length codes) more))
 
-module _ (candidates codes : List ℕ) (hostSize i first : ℕ) where
-  -- the candidate at i decides the search from i on, where it is accepted
-  pub search-accepted : (layout : Layout) → i < length codes
-      → judge (locationOf (getD codes i 0) .kind) hostSize i (candidateAt i candidates) ≡ Accepted layout
-      → searchFrom first (judgements candidates hostSize i (drop i codes)) ≡ Accepted layout
-  unfolding judgements searchFrom
-  search-accepted layout h e = simp (drop-cons codes i 0 h, e)
+  module _ (codes : List ℕ) (i : ℕ) (inside : i < length codes) where
+    -- one candidate more
+    pub searched-next : searched candidates hostSize (take (i + 1) codes)
+        ≡ further (searched candidates hostSize (take i codes)) (judge (locationOf (getD codes i 0) .kind) hostSize i (candidateAt i candidates))
+    unfolding judgements
+    searched-next =
+        let size : length (take i codes) ≡ i = simp length-take (omega arith) in
+        rw (add-one, take-suc codes i 0 inside, searched-append (take i codes) (getD codes i 0 ∷ []), size)
 
-  -- and where it is refused, the search goes on with the first refusal that counts
-  pub search-refused : (number : ℕ) → i < length codes
-      → judge (locationOf (getD codes i 0) .kind) hostSize i (candidateAt i candidates) ≡ Refused number
-      → searchFrom first (judgements candidates hostSize i (drop i codes))
-      ≡ searchFrom (firstRefusal first number) (judgements candidates hostSize (i + 1) (drop (i + 1) codes))
-  unfolding judgements searchFrom
-  search-refused number h e = simp (add-one, drop-cons codes i 0 h, e)
-
-  pub search-end : length codes ≤ i → searchFrom first (judgements candidates hostSize i (drop i codes)) ≡ Refused first
-  unfolding judgements searchFrom
-  search-end h = rw (drop-of-length-le codes h)
+    -- the first acceptance is the answer
+    pub searched-accepted : (layout : Layout) → searched candidates hostSize (take (i + 1) codes) ≡ Accepted layout
+        → searched candidates hostSize codes ≡ Accepted layout
+    searched-accepted layout e =
+        let behind = drop (i + 1) codes in
+        ap (searched candidates hostSize) (sym (take-append-drop (i + 1) codes))
+        ∙ searched-append (take (i + 1) codes) behind
+        ∙ rw e (accepted-stays layout (judgements candidates hostSize (length (take (i + 1) codes)) behind))

@@ -1,2 +1,1 @@
-pub mod Locations
 pub mod Opening

@@ -3,15 +3,16 @@
 use Prim.Native.Nat.{ℕ, suc, _+_, _*_}
 use mathlib.Core.Path.{_≡_}
 use mathlib.Core.Bool.{Bool, true, _&&_, cond}
-use mathlib.Core.List.{List, [], _∷_}
+use mathlib.Core.List.{List, [], _∷_, foldl}
 use lib.Dec.{leb, eqb}
 use lib.ListN.{length}
+use Rattle.answers.specs.Answers.{line}
 use Rattle.layout.specs.Rules.{hostSizeRule}
 use Rattle.layout.specs.declared.Opened.{Opened}
 use Rattle.layout.specs.declared.Opened.the-variants.{Accepted, Refused}
 use Rattle.header.specs.Bytes.{part}
 use Rattle.header.specs.Header.{headerBytes, judge}
-use Rattle.opening.specs.Locations.{codeRule, locationOf}
+use Rattle.locations.specs.Locations.{codeRule, locationOf}
 
 -- the most candidates of one call
 abbrev pub maxCandidates : ℕ
@@ -37,24 +38,23 @@ judgements candidates hostSize index [] = []
 judgements candidates hostSize index (code ∷ codes) =
     judge (locationOf code .kind) hostSize index (candidateAt index candidates) ∷ judgements candidates hostSize (suc index) codes
 
--- the refusal of the first header: 4, no header, gives way to a later refusal
-unfoldable pub firstRefusal : ℕ → ℕ → ℕ
-firstRefusal first later = cond (eqb first 4) later first
+-- the answer so far and the next judgement: an acceptance stays, 4 (no header) gives way to any answer, and another refusal, which is
+-- that of the first header, to an acceptance only
+unfoldable pub further : Opened → Opened → Opened
+further (Accepted layout) next = Accepted layout
+further (Refused number) (Accepted layout) = Accepted layout
+further (Refused number) (Refused later) = Refused (cond (eqb number 4) later number)
 
--- the first acceptance; where there is none, the refusal of the first header, and 4 where none is a header
-unfoldable pub searchFrom : ℕ → List Opened → Opened
-searchFrom first [] = Refused first
-searchFrom first (Accepted layout ∷ later) = Accepted layout
-searchFrom first (Refused number ∷ later) = searchFrom (firstRefusal first number) later
+-- the answer over the candidates of so many codes: the first acceptance, else the refusal of the first header, else 4
+unfoldable pub searched : List ℕ → ℕ → List ℕ → Opened
+searched candidates hostSize codes = foldl further (Refused 4) (judgements candidates hostSize 0 codes)
 
 -- the answer of opening: 1, 2 and 3 before any candidate, then the search
 unfoldable pub opened : List ℕ → List ℕ → ℕ → Opened
 opened candidates codes hostSize =
-    cond (lengthsRule candidates codes)
-    (cond (codesRule codes)
-    (cond (hostSizeRule hostSize) (searchFrom 4 (judgements candidates hostSize 0 codes)) (Refused 3))
-    (Refused 2))
-    (Refused 1)
+    line (Refused 1) (lengthsRule candidates codes)
+    (line (Refused 2) (codesRule codes)
+    (line (Refused 3) (hostSizeRule hostSize) (searched candidates hostSize codes)))
 
 -- where the key bytes stand in the candidates: at 256 in the accepted one, and at the start where opening refuses
 unfoldable pub keysOffset : Opened → ℕ

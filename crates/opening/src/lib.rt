@@ -1,13 +1,13 @@
-// Opening a volume: where its headers lie, which of the candidates is accepted, and its key bytes.
+// Opening a volume: which of the candidates is accepted, and its key bytes.
 // Assumes nothing; no public function has a `requires`.
 ghost use mathlib.Core.Path.{_≡_};
 ghost use mathlib.Core.Bool.{true, _&&_};
 ghost use Prim.Native.Nat.{_*_, _≤_};
 ghost use lib.ListN.{length};
 ghost use denote.Ref.{ptr};
-ghost use Rattle.opening.specs.Locations.{codeRule, located};
-ghost use Rattle.opening.specs.Opening.{lengthsRule, codesRule, judgements, firstRefusal, searchFrom, opened, KeyBytes};
-use answers::Numbered;
+ghost use Rattle.layout.specs.declared.Opened.the-variants.{Refused};
+ghost use Rattle.locations.specs.Locations.{codeRule};
+ghost use Rattle.opening.specs.Opening.{lengthsRule, codesRule, further, searched, opened, KeyBytes};
 use header::KEYS;
 use header::KEYS_SIZE;
 use header::SIZE;
@@ -15,67 +15,6 @@ use layout::Opened;
 
 // At most so many candidates in one call.
 pub const MAX_CANDIDATES: usize = 64;
-
-// The largest location code.
-pub const MAX_CODE: u8 = 3;
-
-// The end of the host that a distance counts from.
-pub enum Origin {
-    HostStart,
-    HostEnd,
-}
-
-// A header location (RULES.md, Header locations), and the kind of volume that a header there makes.
-pub struct Location {
-    pub distance: u64,
-    pub origin: Origin,
-    pub kind: u64,
-}
-
-// The four header locations, by location code.
-const LOCATIONS: [Location; 4] = [
-    Location {
-        distance: 0,
-        origin: Origin::HostStart,
-        kind: layout::STANDARD,
-    },
-    Location {
-        distance: 65_536,
-        origin: Origin::HostStart,
-        kind: layout::HIDDEN,
-    },
-    Location {
-        distance: 131_072,
-        origin: Origin::HostEnd,
-        kind: layout::STANDARD,
-    },
-    Location {
-        distance: 65_536,
-        origin: Origin::HostEnd,
-        kind: layout::HIDDEN,
-    },
-];
-
-// Where the header of a location code lies in a host of this size. Refuses 2 for a code above 3,
-// then 3 for the size.
-pub fn locate(code: u8, host_size: u64) -> Numbered
-    ensures { λ r. ⌜ r ≡ located code «host_size» ⌝ }
-{
-    if MAX_CODE < code {
-        return Numbered::Refused(2);
-    }
-    if !layout::is_host_size(host_size) {
-        return Numbered::Refused(3);
-    }
-    let locations = LOCATIONS;
-    let index = code as usize;
-    let entry = locations[index];
-    let origin = entry.origin;
-    match origin {
-        Origin::HostStart => Numbered::Number(entry.distance),
-        Origin::HostEnd => Numbered::Number(host_size - entry.distance),
-    }
-}
 
 // Opens a volume: candidates holds deciphered headers of 512 bytes, codes a location code for each.
 // The first candidate that is accepted gives the layout. Without one the first header gives the
@@ -131,7 +70,7 @@ fn codes_known(codes: &[u8]) -> bool
         largest = larger(largest, codes[i]);
         i += 1;
     }
-    largest <= MAX_CODE
+    largest <= locations::MAX_CODE
 }
 
 // The larger of two codes is known where both are.
@@ -148,9 +87,9 @@ fn search_in_order(candidates: &[u8], codes: &[u8], host_size: u64) -> Opened
     requires { ⌜ length (now codes) ≤ 64 ⌝ }
     requires { ⌜ length (now candidates) ≡ length (now codes) * 512 ⌝ }
     requires { ⌜ codesRule (now codes) ≡ true ⌝ }
-    ensures { λ r. ⌜ r ≡ searchFrom 4 (judgements (now (candidates .entry)) «host_size» 0 (now (codes .entry))) ⌝ }
+    ensures { λ r. ⌜ r ≡ searched (now (candidates .entry)) «host_size» (now (codes .entry)) ⌝ }
 {
-    let locations = LOCATIONS;
+    let table = locations::LOCATIONS;
     let mut first: u8 = 4;
     let mut index = 0;
     loop {
@@ -158,7 +97,7 @@ fn search_in_order(candidates: &[u8], codes: &[u8], host_size: u64) -> Opened
             break Opened::Refused(first);
         }
         let code = codes[index] as usize;
-        let entry = locations[code];
+        let entry = table[code];
         let start = index * SIZE;
         let judged = header::judge(
             &candidates[start..start + SIZE],
@@ -176,8 +115,9 @@ fn search_in_order(candidates: &[u8], codes: &[u8], host_size: u64) -> Opened
     }
 }
 
+// Of two refusals, that of the first header; 4 is no header's.
 fn first_refusal(first: u8, later: u8) -> u8
-    ensures { λ r. ⌜ r ≡ firstRefusal first later ⌝ }
+    ensures { λ r. ⌜ Refused r ≡ further (Refused first) (Refused later) ⌝ }
 {
     if first == 4 { later } else { first }
 }

@@ -8,5 +8,5 @@ pub fn checksum(body: &[u8]) {
 
 pub fn location(body: &[u8]) {
     let code = (input::number(body, 2) % 256) as u8;
-    print::numbered(b": ", opening::locate(code, input::number(body, 3)));
+    print::numbered(b": ", locations::locate(code, input::number(body, 3)));
 }

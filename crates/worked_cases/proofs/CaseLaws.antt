@@ -9,8 +9,8 @@ use Rattle.layout.specs.Soundness.{sound}
 use Rattle.header.specs.Bytes.{sameBytes, allZero}
 use Rattle.header.specs.Header.{magicOf, fieldsOf, checksumsMatch, isHeader, acceptedLayout, answer, judge}
 use Rattle.header.specs.Header.{versionRule, reservedRule, flagsRule, sectorSizeRule, hiddenSizeRule, areaRule, firstBroken}
-use Rattle.opening.specs.Locations.{locations, locationOf, codeRule}
-use Rattle.opening.specs.Opening.{lengthsRule, codesRule, candidateAt, judgements, firstRefusal, searchFrom, opened}
+use Rattle.locations.specs.Locations.{locations, locationOf, codeRule}
+use Rattle.opening.specs.Opening.{lengthsRule, codesRule, candidateAt, judgements, further, searched, opened}
 use Rattle.sector_map.specs.SectorMap.{sectors, firstSector, hostSector, userSector, tweakNumber, blockOf, tweakOf}
 use Rattle.view.specs.Access.{checked, extentStart, touches, readNumber, writeNumber, after}
 use Rattle.view.specs.Views.{areaEnd, protectionRule, soundView, plainOf, protectedOf, nests, plainView, protectedView}
@@ -22,7 +22,7 @@ use Rattle.worked_cases.specs.WorkedCases.{onView, writing, reading, lea
 
 table : map (λ (c : Case). c .answer) cases ≡ map (λ (c : Case). c .expected) cases
 unfolding cases opens toldOf headerWith fieldBytes bytesOf volumeM volumeN mappedTold tweakTold
-    opened lengthsRule codesRule codeRule hostSizeRule searchFrom firstRefusal judgements candidateAt locationOf locations
+    opened lengthsRule codesRule codeRule hostSizeRule searched further judgements candidateAt locationOf locations
     judge isHeader magicOf fieldsOf checksumsMatch sameBytes allZero answer acceptedLayout
     firstBroken versionRule reservedRule flagsRule sectorSizeRule hiddenSizeRule areaRule dataAreaRule sectorsRule placeRule
     crc32 crcFrom bitStep bitSteps bigEndian bigEndianFrom littleEndian

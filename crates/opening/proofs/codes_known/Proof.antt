@@ -7,7 +7,7 @@ use native.Mathlib.Omega.{arith}
 use denote.Ref.{now}
 use lib.ListN.{length, drop}
 use borrow.Author.Needs.{needs}
-use Rattle.opening.specs.Locations.{codeRule}
+use Rattle.locations.specs.Locations.{codeRule}
 use Rattle.opening.specs.Opening.{codesRule}
 use Rattle.opening.proofs.CodeLaws.{codes-step, codes-end}
 use Rattle.opening.proofs.codes_known.Statement.{statement}
@@ -37,14 +37,16 @@ loop-less c = search needs
 
 loop-again : tie.Need-loop-again Inv-loop μ-loop
 loop-again c =
-    let codes = now (c .before .before .before .before .before .args .codes) in
-    let i = c .before .before .before .loop .i in
-    let h : i < length codes = omega arith in
-    (omega arith, codes-step codes i (c .before .before .before .loop .largest) (c .larger .result) h (c .larger .ensures) ∙ c .before .before .before .loop .inv .1)
+    let turn = c .before .before .before in
+    let codes = now (turn .before .before .args .codes) in
+    let inside : turn .loop .i < length codes = omega arith in
+    (omega arith, codes-step codes (turn .loop .i) (turn .loop .largest) (c .larger .result) inside (c .larger .ensures) ∙ turn .loop .inv .1)
 
 returns : tie.Need-returns Inv-loop μ-loop
 unfolding codeRule
-returns c = sym (codes-end (now (c .before .before .before .args .codes)) (c .before .loop .i) (c .before .loop .largest) (omega arith)) ∙ c .before .loop .inv .1
+returns c =
+    let turn = c .before in
+    sym (codes-end (now (turn .before .before .args .codes)) (turn .loop .i) (turn .loop .largest) (omega arith)) ∙ turn .loop .inv .1
 
 pub codes-known-spec : {M : Type 1} → statement M
 codes-known-spec =

@@ -15,12 +15,22 @@ use Rattle.opening.proofs.key_bytes.Statement.{statement}
 use Rattle.opening.proofs.key_bytes.Tie as tie
 
 -- where the layout was taken out, opening accepts it
-accepted : (c : tie.After-known-told) → opened (now (c .before .before .before .before .before .before .args .candidates)) (now (c .before .before .before .before .before .before .args .codes)) (c .before .before .before .before .before .before .args .host-size) ≡ Accepted (c .before .answer .given .0 .0)
-accepted c = sym (c .before .before .before .«open» .ensures) ∙ c .before .answer .given .1
+accepted : (c : tie.After-known-told)
+    → let opened-here = c .before .before .before in
+    let args = opened-here .before .before .before .args in
+    opened (now (args .candidates)) (now (args .codes)) (args .host-size) ≡ Accepted (c .before .answer .given .0 .0)
+accepted c =
+    let opened-here = c .before .before .before in
+    sym (opened-here .«open» .ensures) ∙ c .before .answer .given .1
 
 inside : (c : tie.After-known-told)
-    → (c .before .answer .given .0 .0 .candidate * headerBytes + headerBytes ≤ length (now (c .before .before .before .before .before .before .args .candidates))) × (length (now (c .before .before .before .before .before .before .args .candidates)) ≤ maxCandidates * headerBytes)
-inside c = opened-inside (now (c .before .before .before .before .before .before .args .candidates)) (c .before .before .before .before .before .before .args .host-size) (c .before .answer .given .0 .0) (now (c .before .before .before .before .before .before .args .codes)) (accepted c)
+    → let opened-here = c .before .before .before in
+    let size = length (now (opened-here .before .before .before .args .candidates)) in
+    (c .before .answer .given .0 .0 .candidate * headerBytes + headerBytes ≤ size) × (size ≤ maxCandidates * headerBytes)
+inside c =
+    let opened-here = c .before .before .before in
+    let args = opened-here .before .before .before .args in
+    opened-inside (now (args .candidates)) (args .host-size) (c .before .answer .given .0 .0) (now (args .codes)) (accepted c)
 
 open-requires : tie.Need-open-requires
 open-requires c κs = search needs
@@ -37,8 +47,10 @@ slice-aggregate-result c = search needs
 returns : tie.Need-returns
 unfolding keysOffset keysSize
 returns c =
-    rw (sym (c .before .before .before .«open» .ensures) ∙ c .before .enum-told .given .1)
-    (record { content = refl; address = ap (λ (n : ℕ). (ptr (c .before .before .before .before .before .before .args .candidates) .0, n)) (sym (zero-add (ptr (c .before .before .before .before .before .before .args .candidates) .1))) })
+    let opened-here = c .before .before .before in
+    let borrowed = ptr (opened-here .before .before .before .args .candidates) in
+    rw (sym (opened-here .«open» .ensures) ∙ c .before .enum-told .given .1)
+    (record { content = refl; address = ap (λ (n : ℕ). (borrowed .0, n)) (sym (zero-add (borrowed .1))) })
 
 mul-keys : tie.Need-mul-keys
 mul-keys c = record { fits = omega (arith, inside c .0, inside c .1) }

@@ -11,10 +11,14 @@ use Rattle.opening.proofs.open.Statement.{statement}
 use Rattle.opening.proofs.open.Tie as tie
 
 -- what the first two tests tell once they are passed
-lengths-kept : (c : tie.Else1) → lengthsRule (now (c .before .before .before .before .args .candidates)) (now (c .before .before .before .before .args .codes)) ≡ true
+lengths-kept : (c : tie.Else1)
+    → let args = c .before .before .before .before .args in
+    lengthsRule (now (args .candidates)) (now (args .codes)) ≡ true
 lengths-kept c = sym (c .before .lengths-agree .ensures) ∙ not-false _ (c .if1 .left)
 
-codes-kept : (c : tie.Else2) → codesRule (now (c .before .before .before .before .before .before .args .codes)) ≡ true
+codes-kept : (c : tie.Else2)
+    → let lengths = c .before .before in
+    codesRule (now (lengths .before .before .before .before .args .codes)) ≡ true
 codes-kept c = sym (c .before .codes-known .ensures) ∙ not-false _ (c .if2 .left)
 
 lengths-agree-requires : tie.Need-lengths-agree-requires
@@ -36,23 +40,25 @@ is-host-size-requires c κs = search needs
 
 returns-3 : tie.Need-returns-3
 unfolding opened
-returns-3 c = simp (lengths-kept (c .before .before .before .before), codes-kept (c .before .before), sym (c .before .is-host-size .ensures) ∙ not-true _ (c .if3 .taken))
+returns-3 c =
+    let codes = c .before .before in
+    simp (lengths-kept (codes .before .before), codes-kept codes, sym (c .before .is-host-size .ensures) ∙ not-true _ (c .if3 .taken))
 
 search-in-order-requires : tie.Need-search-in-order-requires
 search-in-order-requires c κs =
-    let a = c .before .before .before .before .before .before .before .before .args in
-    let kept = lengths-kept (c .before .before .before .before) in
-    (lengths-most (now (a .candidates)) (now (a .codes)) kept, (lengths-whole (now (a .candidates)) (now (a .codes)) kept, codes-kept (c .before .before)))
+    let codes = c .before .before in
+    let lengths = codes .before .before in
+    let args = lengths .before .before .before .before .args in
+    let most = lengths-most (now (args .candidates)) (now (args .codes)) (lengths-kept lengths) in
+    let whole = lengths-whole (now (args .candidates)) (now (args .codes)) (lengths-kept lengths) in
+    (most, (whole, codes-kept codes))
 
 returns-4 : tie.Need-returns-4
 unfolding opened
 returns-4 c =
-    simp (
-      lengths-kept (c .before .before .before .before .before),
-      codes-kept (c .before .before .before),
-      sym (c .before .before .is-host-size .ensures) ∙ not-false _ (c .before .if3 .left),
-    )
-    (c .search-in-order .ensures)
+    let codes = c .before .before .before in
+    let size = sym (c .before .before .is-host-size .ensures) ∙ not-false _ (c .before .if3 .left) in
+    simp (lengths-kept (codes .before .before), codes-kept codes, size) (c .search-in-order .ensures)
 
 pub open-spec : {M : Type 1} → statement M
 open-spec =

@@ -1,35 +1,52 @@
--- `opening::search_in_order` meets its contract. The loop's invariant: the search over what is left, with the refusal remembered, is the whole search.
+-- `opening::search_in_order` meets its contract. The loop's invariant: the refusal remembered is the answer over the candidates so far.
 -- Assumes nothing.
-use native.Mathlib.Nat.{add-sub-cancel-left}
-use Rattle.header.specs.Header.{judge}
-use Rattle.opening.specs.Locations.{locationOf, locations}
-use Rattle.opening.specs.Opening.{candidateAt}
 use Prim.Native.Nat.{ℕ, _≤_, _-_, _+_}
-use mathlib.Core.Path.{_≡_, sym, _∙_, ap}
+use native.Mathlib.Nat.{add-sub-cancel-left}
 use native.Mathlib.Omega.{arith}
-use borrow.Author.Needs.{needs}
-use lib.ListN.{length, drop, getD}
+use mathlib.Core.Path.{_≡_, sym, _∙_, ap}
+use lib.ListN.{length, take, getD}
+use lib.Seq.{take-length}
 use denote.Ref.{now}
-use Rattle.opening.specs.Opening.{judgements, searchFrom}
-use Rattle.opening.proofs.SearchLaws.{codes-rule-at, search-accepted, search-refused, search-end}
+use borrow.Author.Needs.{needs}
+use Rattle.layout.specs.declared.Opened.the-variants.{Refused}
+use Rattle.locations.specs.Locations.{locationOf, locations}
+use Rattle.header.specs.Header.{judge}
+use Rattle.opening.specs.Opening.{candidateAt, further, searched, judgements}
+use Rattle.opening.proofs.CodeLaws.{codes-rule-at}
+use Rattle.opening.proofs.SearchLaws.{searched-next, searched-accepted}
 use Rattle.opening.proofs.search_in_order.Statement.{statement}
 use Rattle.opening.proofs.search_in_order.Tie as tie
 
 abbrev Inv-loop : tie.InvT-loop
-Inv-loop candidates codes host-size locations first₀ index₀ first index =
-    (index ≤ length codes) × (searchFrom first (judgements candidates host-size index (drop index codes)) ≡ searchFrom 4 (judgements candidates host-size 0 codes))
+Inv-loop candidates codes host-size table first₀ index₀ first index =
+    (index ≤ length codes) × (searched candidates host-size (take index codes) ≡ Refused first)
 
 abbrev μ-loop : tie.MeasureT-loop
-μ-loop candidates codes host-size locations first₀ index₀ first index = length codes - index
+μ-loop candidates codes host-size table first₀ index₀ first index = length codes - index
 
-code-known : (c : tie.After-shared-slice-known3 Inv-loop μ-loop) → getD (now (c .before .before .before .before .before .args .codes)) (c .before .before .loop .index) 0 ≤ 3
-code-known c = codes-rule-at (now (c .before .before .before .before .before .args .codes)) (c .before .before .loop .index) (omega arith) (c .before .before .before .before .before .pre .1 .1)
+code-known : (c : tie.After-shared-slice-known3 Inv-loop μ-loop)
+    → let turn = c .before .before in
+    getD (now (turn .before .before .before .args .codes)) (turn .loop .index) 0 ≤ 3
+code-known c =
+    let turn = c .before .before in
+    let start = turn .before .before .before in
+    codes-rule-at (now (start .args .codes)) (turn .loop .index) (omega arith) (start .pre .1 .1)
 
-judged : (c : tie.After-judge Inv-loop μ-loop) → c .judge .result ≡ judge (locationOf (getD (now (c .before .before .before .before .before .before .before .before .args .codes)) (c .before .before .before .before .before .loop .index) 0) .kind) (c .before .before .before .before .before .before .before .before .args .host-size) (c .before .before .before .before .before .loop .index) (candidateAt (c .before .before .before .before .before .loop .index) (now (c .before .before .before .before .before .before .before .before .args .candidates)))
+-- the search over one candidate more
+next : (c : tie.After-judge Inv-loop μ-loop)
+    → let turn = c .before .before .before .before .before in
+    let args = turn .before .before .before .args in
+    searched (now (args .candidates)) (args .host-size) (take (turn .loop .index + 1) (now (args .codes)))
+    ≡ further (Refused (turn .loop .first)) (c .judge .result)
 unfolding candidateAt locationOf locations
-judged c = simp add-sub-cancel-left at (c .judge .ensures)
+next c =
+    let turn = c .before .before .before .before .before in
+    let args = turn .before .before .before .args in
+    searched-next (now (args .candidates)) (args .host-size) (now (args .codes)) (turn .loop .index) (omega arith)
+    ∙ rw (turn .loop .inv .1, simp add-sub-cancel-left at (c .judge .ensures))
 
 loop-holds : tie.Need-loop-holds Inv-loop μ-loop
+unfolding searched judgements
 loop-holds c = search needs
 
 shared-slice-read-code : tie.Need-shared-slice-read-code Inv-loop μ-loop
@@ -79,29 +96,26 @@ loop-less c = search needs
 
 loop-again : tie.Need-loop-again Inv-loop μ-loop
 loop-again c =
-    let a = c .before .before .before .before .before .before .before .before .before .before .before .before .args in
-    let at = c .before .before .before .before .before .before .before .before .before .loop in
-    let told = c .before .before .judged2 .given in (
-      omega arith,
-      ap (λ (first : ℕ). searchFrom first (judgements (now (a .candidates)) (a .host-size) (at .index + 1) (drop (at .index + 1) (now (a .codes))))) (c .first-refusal .ensures)
-          ∙ sym
-          (search-refused (now (a .candidates)) (now (a .codes)) (a .host-size) (at .index) (at .first) (told .0 .0) (omega arith)
-          (sym (judged (c .before .before .before .before)) ∙ told .1))
-          ∙ at .inv .1,
-    )
+    let refused = c .before .before in
+    (omega arith, next (refused .before .before) ∙ rw (refused .judged2 .given .1, ← c .first-refusal .ensures))
 
 returns : tie.Need-returns Inv-loop μ-loop
-returns c = sym (search-end (now (c .before .before .before .before .args .candidates)) (now (c .before .before .before .before .args .codes)) (c .before .before .before .before .args .host-size) (c .before .loop .index) (c .before .loop .first) (omega arith)) ∙ c .before .loop .inv .1
+returns c =
+    let turn = c .before in
+    let args = turn .before .before .before .args in
+    let whole : turn .loop .index ≡ length (now (args .codes)) = omega arith in
+    sym (turn .loop .inv .1) ∙ rw (whole, take-length)
 
 returns-2 : tie.Need-returns-2 Inv-loop μ-loop
+unfolding further
 returns-2 c =
-    let a = c .before .before .before .before .before .before .before .before .before .before .before .args in
-    let at = c .before .before .before .before .before .before .before .before .loop in
+    let judged = c .before .before .before in
+    let turn = judged .before .before .before .before .before in
+    let args = turn .before .before .before .args in
     let told = c .before .judged .given in
     sym
-    (search-accepted (now (a .candidates)) (now (a .codes)) (a .host-size) (at .index) (at .first) (told .0 .0) (omega arith)
-    (sym (judged (c .before .before .before)) ∙ told .1))
-    ∙ at .inv .1
+    (searched-accepted (now (args .candidates)) (args .host-size) (now (args .codes)) (turn .loop .index) (omega arith) (told .0 .0)
+    (next judged ∙ rw (told .1)))
 
 pub search-in-order-spec : {M : Type 1} → statement M
 search-in-order-spec =
