@@ -4,7 +4,7 @@ from .records import MADE_UP, PLAIN, PROTECTED, READ, WRITE
 from .reference_model import view
 from .sectors import hidden_layout, layout
 
-YES, MADE = 'accepted', 'made'
+YES = MADE = 'accepted'
 N_RANGE = (655_360, 917_504)
 CLOSED = view(layout(), N_RANGE, True)
 

@@ -28,8 +28,8 @@ LOCATIONS = [
 def checks():
     for text, checksum in CHECKSUMS:
         same(text, checksum, f'{zlib.crc32(text.encode()):08x}')
-        yield Case(CHECKSUM, f'crc32 {text}', f' {checksum}', data=text.encode())
+        yield Case(CHECKSUM, f'crc32 {text}', [('', checksum)], data=text.encode())
     for code, host_size, offset in LOCATIONS:
         name = f'location {code} of {host_size}'
         same(name, offset, locate(code, host_size))
-        yield Case(LOCATION, name, f': {offset}', numbers=(code, host_size))
+        yield Case(LOCATION, name, [('', offset)], numbers=(code, host_size))

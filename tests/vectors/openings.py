@@ -2,7 +2,7 @@
 import zlib
 
 from .headers import changed, header, hidden, OTHER_KEYS, SAMPLES, vera, vera_hidden
-from .records import Case, OPENING, same
+from .records import Case, OPENING, outcome, same, spaced
 from .rules import open_volume
 
 HOST = 1_048_576
@@ -223,13 +223,13 @@ def cases():
     yield from LENGTHS
 
 
-def printed(answer, candidates):
+def answers(answer, candidates):
     if isinstance(answer, int):
-        words, numbers, keys = f'refused {answer}', [0] * 8, b''
+        word, layout, keys = outcome(answer), [0] * 8, b''
     else:
-        words, numbers = 'accepted', answer.values()
+        word, layout = 'accepted', answer.values()
         keys = candidates[512 * answer['candidate'] + 256:][:256]
-    return f": {words}, layout {' '.join(map(str, numbers))}, keys {len(keys)} {zlib.crc32(keys):08x}"
+    return [('', word), ('layout', spaced(layout)), ('keys ', len(keys)), ('sum ', f'{zlib.crc32(keys):08x}')]
 
 
 def openings():
@@ -239,4 +239,4 @@ def openings():
             same(name, answer, computed)
         else:
             same(name, answer, {field: computed[field] for field in answer})
-        yield Case(OPENING, name, printed(computed, candidates), (host_size, len(codes)), codes + candidates)
+        yield Case(OPENING, name, answers(computed, candidates), (host_size, len(codes)), codes + candidates)

@@ -1,7 +1,8 @@
 """The one format of what the program `vectors` reads, a case as a record, and of what it must print, a case as a line.
 
-crates/vectors/src/input.rt reads it: the lengths of the name and of the body, the name, and the body. A body is numbers,
-what is asked for and the slot of a view first, and after them any bytes. Every number is eight bytes, big-endian.
+crates/vectors/src/input.rt reads it: parts, which are a length and so many bytes. A record is a body and then texts, one
+before each answer and one after the last. A body is numbers, what is asked for and the slot of a view first, and after
+them any bytes. Every number is eight bytes, big-endian.
 """
 from typing import NamedTuple
 
@@ -12,7 +13,7 @@ CHECKSUM, LOCATION, OPENING, MAP, PLAIN, PROTECTED, MADE_UP, READ, WRITE = range
 class Case(NamedTuple):
     request: int
     name: str
-    printed: str  # after the name
+    answers: list  # what is printed: pairs of a label and an answer
     numbers: tuple = ()  # after what is asked for and the slot
     data: bytes = b''
     slot: int = 0
@@ -22,14 +23,23 @@ def number_bytes(numbers):
     return b''.join(int(number).to_bytes(8, 'big') for number in numbers)
 
 
+def part(content):
+    return number_bytes([len(content)]) + content
+
+
+def texts(case):
+    (label, _), *others = case.answers
+    return [f'{case.name}: {label}', *(f', {label}' for label, _ in others), '\n']
+
+
 def record(case):
-    name = case.name.encode('ascii')
     body = number_bytes([case.request, case.slot, *case.numbers]) + case.data
-    return number_bytes([len(name), len(body)]) + name + body
+    return part(body) + b''.join(part(text.encode('ascii')) for text in texts(case))
 
 
 def line(case):
-    return f'{case.name}{case.printed}\n'.encode('ascii')
+    answers = [str(answer) for _, answer in case.answers] + ['']
+    return ''.join(text + answer for text, answer in zip(texts(case), answers)).encode('ascii')
 
 
 def program_files(cases):
@@ -43,6 +53,10 @@ def program_files(cases):
 def outcome(answer):
     """An answer as it is printed: a refusal's number, or text."""
     return f'refused {answer}' if isinstance(answer, int) else answer
+
+
+def spaced(numbers):
+    return ''.join(f' {number}' for number in numbers)
 
 
 def same(name, by_hand, computed):

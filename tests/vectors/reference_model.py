@@ -106,4 +106,4 @@ class ReferenceModel:
         if isinstance(made, int):
             return made
         self.views[slot] = made
-        return 'made'
+        return 'accepted'

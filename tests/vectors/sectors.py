@@ -125,11 +125,11 @@ def map_cases():
 
 
 def sectors():
-    for name, fields, sector, answers in map_cases():
+    for name, fields, sector, by_hand in map_cases():
         tweak = host_sector(fields, sector)
-        same(name, answers, (is_sound(fields), sector_count(fields), tweak, user_sector(fields, sector), tweak,
+        same(name, by_hand, (is_sound(fields), sector_count(fields), tweak, user_sector(fields, sector), tweak,
                              tweak_block(tweak)))
-        sound, count, host, user, tweak, block = answers
-        printed = (f': sound {int(sound)}, sectors {count}, host {host}, user {user}, '
-                   f'tweak {tweak}, block of {tweak} {block.hex()}')
-        yield Case(MAP, name, printed, (sector, *fields.values()))
+        sound, count, host, user, tweak, block = by_hand
+        answers = [('sound ', int(sound)), ('sectors ', count), ('host ', host), ('user ', user), ('tweak ', tweak),
+                   ('block of ', tweak), ('bytes ', block.hex())]
+        yield Case(MAP, name, answers, (sector, *fields.values()))

@@ -3,7 +3,7 @@ import zlib
 
 from .making_cases import making_groups
 from .order_cases import order_groups, ORDERS
-from .records import Case, MADE_UP, outcome, PLAIN, PROTECTED, READ, same, WRITE
+from .records import Case, MADE_UP, outcome, PLAIN, PROTECTED, READ, same, spaced, WRITE
 from .reference_model import filled, plain_view, protected_view, ReferenceModel
 from .calls import YES
 from .view_cases import ACCESS_GROUPS
@@ -47,26 +47,23 @@ def run_call(model, call):
     return model.call(slot, request == WRITE, call['image'], call['first'], call['count'], buffer)
 
 
-def printed(call, answer, buffer, model):
-    words = [outcome(answer)]
-    if buffer is not None:
-        words += [f'buffer {zlib.crc32(buffer):08x}', f'image {model.checksum():08x}']
-    words.append(' '.join(['view', *map(str, view_numbers(model.views[call['slot']]))]))
-    return f": {', '.join(words)}"
+def answers(call, answer, buffer, model):
+    sums = [] if buffer is None else [('buffer ', f'{zlib.crc32(buffer):08x}'), ('image ', f'{model.checksum():08x}')]
+    return [('', outcome(answer)), *sums, ('view', spaced(view_numbers(model.views[call['slot']])))]
 
 
 def views():
     model = ReferenceModel()
-    answers, groups = set(), {}
+    given, groups = set(), {}
     for title, name, answer, call in calls():
         computed, buffer = run_call(model, call)
         same(name, answer, computed)
-        answers.add((call['request'], answer))
+        given.add((call['request'], answer))
         group = groups.setdefault(title, {0: [], 1: []})
         group[call['slot']].append((computed, buffer))
         group['after'] = (list(model.sectors), list(model.views))
-        yield Case(call['request'], name, printed(call, computed, buffer, model), numbers(call), slot=call['slot'])
-    assert answers >= {(READ, n) for n in (YES, 11, 13, 14, 15, 16)} | {(WRITE, n) for n in (YES, 11, *range(13, 19))}
+        yield Case(call['request'], name, answers(call, computed, buffer, model), numbers(call), slot=call['slot'])
+    assert given >= {(READ, n) for n in (YES, 11, 13, 14, 15, 16)} | {(WRITE, n) for n in (YES, 11, *range(13, 19))}
     for title in ('before order', 'order'):
         first, *others = [groups[f'{title} {order}'] for order in ORDERS]
         assert others == [first] * len(others), f'{title}: the three differ in an answer, a buffer, the image or a view'

@@ -24,8 +24,8 @@ const BUFFER_SPACE: usize = 66_560;
 pub fn run(image: &mut [u8; image::SPACE], view: &mut [u64; views::SIZE], body: &[u8]) {
     let mut space = [0u8; BUFFER_SPACE];
     lend(image, view, body, &mut space);
-    print::checksum(b", image ", image);
-    print::numbers(b", view", view);
+    print::checksum(image);
+    print::numbers(view);
 }
 
 // Lends so much of the image and of the space as the record says.
@@ -35,8 +35,8 @@ fn lend(image: &mut [u8], view: &mut [u64; views::SIZE], body: &[u8], space: &mu
     let buffer = &mut space[..buffer_size];
     image::fill(buffer, input::number(body, SEED));
     let refusal = call(&mut image[..image_size], view, body, buffer);
-    print::answer(b": accepted", refusal);
-    print::checksum(b", buffer ", buffer);
+    print::answer(refusal);
+    print::checksum(buffer);
 }
 
 fn call(image: &mut [u8], view: &mut [u64; views::SIZE], body: &[u8], buffer: &mut [u8]) -> u64 {

@@ -3,10 +3,10 @@ use crate::input;
 use crate::print;
 
 pub fn checksum(body: &[u8]) {
-    print::checksum(b" ", input::after(body, 2));
+    print::checksum(input::after(body, 2));
 }
 
 pub fn location(body: &[u8]) {
     let code = (input::number(body, 2) % 256) as u8;
-    print::numbered(b": ", locations::locate(code, input::number(body, 3)));
+    print::numbered(locations::locate(code, input::number(body, 3)));
 }

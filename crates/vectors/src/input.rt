@@ -1,49 +1,33 @@
-// A record is the length of its name and the length of its body, its name, and its body. A body is
-// numbers, what is asked for and the slot of a view first, and after them any bytes. Every number is
-// eight bytes, big-endian.
+// The input is parts: a length, and so many bytes. A record is a body and then texts, one before each
+// of its answers and one after the last. A body is numbers, what is asked for and the slot of a view
+// first, and after them any bytes. Every number is eight bytes, big-endian.
 ghost use Rattle.io.specs.Counts.{Counts};
 
-const HEAD_SIZE: usize = 16;
-
-// Where the lengths stand.
-const NAME: usize = 0;
-
-const BODY: usize = 1;
-
-const NAME_SPACE: usize = 255;
-
 const NUMBER_SIZE: usize = 8;
+
+const TEXT_SPACE: usize = 255;
 
 // Sizes are taken below this, so that they can be counted.
 const SIZES: u64 = 4_294_967_296;
 
-// Reads a record, prints its name, and says how much of the space its body fills, 0 where there is no
-// record.
-pub fn read_record(space: &mut [u8]) -> usize
+// Reads a part, and says how much of the space it fills: nothing where the input has ended. What there
+// is no space for is taken for the next part, and the lines are then not the expected ones.
+pub fn read_part(space: &mut [u8]) -> usize
     ensures { λ r. ⌜ Counts r (now (space .exit)) ⌝ }
 {
-    let mut head = [0u8; HEAD_SIZE];
-    io::read_full(0, &mut head);
-    copy_name(&head);
-    read_part(&head, BODY, space)
-}
-
-// Reads the name and prints it.
-fn copy_name(head: &[u8]) {
-    let mut name = [0u8; NAME_SPACE];
-    let size = read_part(head, NAME, &mut name);
-    io::write_all(1, &name[..size]);
-}
-
-// Reads so much as the head says, or as there is space for, and says how much of the space that is. The
-// line of a record that is cut short is not the expected one.
-fn read_part(head: &[u8], place: usize, space: &mut [u8]) -> usize
-    ensures { λ r. ⌜ Counts r (now (space .exit)) ⌝ }
-{
-    let size = number(head, place);
+    let mut length = [0u8; NUMBER_SIZE];
+    io::read_full(0, &mut length);
+    let size = number(&length, 0);
     let end = within(size, space);
     io::read_full(0, &mut space[..end]);
     within(size, space)
+}
+
+// Reads the next text, and prints it.
+pub fn copy_text() {
+    let mut text = [0u8; TEXT_SPACE];
+    let size = read_part(&mut text);
+    io::write_all(1, &text[..size]);
 }
 
 // A size, or the length of the space where that is less.

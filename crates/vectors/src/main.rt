@@ -1,5 +1,5 @@
-// Runs the records of standard input, made by tests/make_vectors.py, and prints a line for each: its
-// name, and the answers of the calls that it asks for. Assumes nothing.
+// Runs the records of standard input, made by tests/make_vectors.py, and prints the answers of the calls
+// that they ask for, with the texts that they have for them. Assumes nothing.
 mod access;
 mod checks;
 mod image;
@@ -52,14 +52,14 @@ fn run_records(
     }
 }
 
-// Reads a record, and prints its line. Whether there was one.
+// Reads a record, and prints its answers. Whether there was one.
 fn run_record(
     image: &mut [u8; image::SPACE],
     left: &mut [u64; views::SIZE],
     right: &mut [u64; views::SIZE],
 ) -> bool {
     let mut space = io::large_buffer();
-    let size = input::read_record(&mut space);
+    let size = input::read_part(&mut space);
     if size == 0 {
         return false;
     }
@@ -69,7 +69,8 @@ fn run_record(
     } else {
         run(image, right, body);
     }
-    print::text(b"\n")
+    input::copy_text();
+    true
 }
 
 fn run(image: &mut [u8; image::SPACE], view: &mut [u64; views::SIZE], body: &[u8]) {

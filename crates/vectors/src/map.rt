@@ -8,11 +8,11 @@ use sector_map::Tweak;
 pub fn run(body: &[u8]) {
     let sector = input::number(body, 2);
     let layout = layout_from(input::after(body, 3));
-    print::number(b": sound ", layout::is_sound(layout) as u64);
-    print::numbered(b", sectors ", sector_map::sector_count(layout));
-    print::numbered(b", host ", sector_map::host_sector(layout, sector));
-    print::numbered(b", user ", sector_map::user_sector(layout, sector));
-    print::numbered(b", tweak ", sector_map::tweak_number(layout, sector));
+    print::number(layout::is_sound(layout) as u64);
+    print::numbered(sector_map::sector_count(layout));
+    print::numbered(sector_map::host_sector(layout, sector));
+    print::numbered(sector_map::user_sector(layout, sector));
+    print::numbered(sector_map::tweak_number(layout, sector));
     print_tweak(sector_map::tweak_block(layout, sector));
 }
 
@@ -34,8 +34,8 @@ fn layout_from(numbers: &[u8]) -> Layout {
 fn print_tweak(tweak: Tweak) {
     let number = tweak.number;
     let block = tweak.block;
-    print::numbered(b", block of ", number);
-    print::text(b" ");
+    print::numbered(number);
+    input::copy_text();
     io::print_hex(1, input::number(&block, 0), 16);
     io::print_hex(1, input::number(&block, 1), 16);
 }

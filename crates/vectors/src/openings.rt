@@ -17,11 +17,11 @@ fn open(candidates: &[u8], codes: &[u8], host_size: u64) {
 
 // The answer, and the layout as it is left: zeros where it is refused.
 fn print_layout(refusal: u64, layout: &[u64; 8]) {
-    print::answer(b": accepted", refusal);
-    print::numbers(b", layout", layout);
+    print::answer(refusal);
+    print::numbers(layout);
 }
 
 fn print_keys(keys: &[u8]) {
-    print::number(b", keys ", keys.len() as u64);
-    print::checksum(b" ", keys);
+    print::number(keys.len() as u64);
+    print::checksum(keys);
 }

@@ -1,46 +1,43 @@
-// What the lines are made of.
+// Answers, each with the next text before it.
+use crate::input;
 use answers::Numbered;
 
-pub fn text(bytes: &[u8]) -> bool {
-    io::write_all(1, bytes)
-}
-
-pub fn number(before: &[u8], number: u64) {
-    io::write_all(1, before);
+pub fn number(number: u64) {
+    input::copy_text();
     io::print_decimal(1, number);
 }
 
 // Each number with a space before it.
-pub fn numbers(before: &[u8], list: &[u64]) {
-    io::write_all(1, before);
+pub fn numbers(list: &[u64]) {
+    input::copy_text();
     let mut i = 0;
     while i < list.len() {
-        number(b" ", list[i]);
+        io::write_all(1, b" ");
+        io::print_decimal(1, list[i]);
         i += 1;
     }
 }
 
-pub fn checksum(before: &[u8], bytes: &[u8]) {
-    io::write_all(1, before);
+pub fn checksum(bytes: &[u8]) {
+    input::copy_text();
     io::print_hex(1, ondristela::ondristela_crc32(bytes) as u64, 8);
 }
 
-// What a call of the boundary answered: a word for 0, or its refusal.
-pub fn answer(accepted: &[u8], refusal: u64) {
+// What a call of the boundary answered.
+pub fn answer(refusal: u64) {
+    input::copy_text();
     if refusal == 0 {
-        io::write_all(1, accepted);
+        io::write_all(1, b"accepted");
     } else {
-        number(b": refused ", refusal);
+        io::write_all(1, b"refused ");
+        io::print_decimal(1, refusal);
     }
 }
 
 // The number of an answer of the library, or its refusal.
-pub fn numbered(before: &[u8], numbered: Numbered) {
-    io::write_all(1, before);
+pub fn numbered(numbered: Numbered) {
     match numbered {
-        Numbered::Number(told) => {
-            io::print_decimal(1, told);
-        }
-        Numbered::Refused(refusal) => number(b"refused ", refusal as u64),
+        Numbered::Number(told) => number(told),
+        Numbered::Refused(refusal) => answer(refusal as u64),
     }
 }

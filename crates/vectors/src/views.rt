@@ -36,6 +36,6 @@ pub fn make_up(view: &mut [u64; SIZE], body: &[u8]) {
 }
 
 fn print_made(refusal: u64, view: &[u64; SIZE]) {
-    print::answer(b": made", refusal);
-    print::numbers(b", view", view);
+    print::answer(refusal);
+    print::numbers(view);
 }

@@ -6,28 +6,31 @@ use Rattle.vectors.proofs.print.numbers.Statement.{statement}
 use Rattle.vectors.proofs.print.numbers.Tie as tie
 
 abbrev Inv-loop : tie.InvT-loop
-Inv-loop before list i₀ t4 i = Unit
+Inv-loop list i₀ t3 i = Unit
 
 abbrev μ-loop : tie.MeasureT-loop
-μ-loop before list i₀ t4 i = length list - i
+μ-loop list i₀ t3 i = length list - i
 
-write-all-requires : tie.Need-write-all-requires Inv-loop μ-loop
-write-all-requires c κs = search needs
+copy-text-requires : tie.Need-copy-text-requires Inv-loop μ-loop
+copy-text-requires c κs = search needs
 
 loop-holds : tie.Need-loop-holds Inv-loop μ-loop
 loop-holds c = search needs
 
-slice-aggregate-number : tie.Need-slice-aggregate-number Inv-loop μ-loop
-slice-aggregate-number c = search needs
+slice-aggregate-write-all : tie.Need-slice-aggregate-write-all Inv-loop μ-loop
+slice-aggregate-write-all c = search needs
 
-mul-number : tie.Need-mul-number Inv-loop μ-loop
-mul-number c = search needs
+write-all-requires : tie.Need-write-all-requires Inv-loop μ-loop
+write-all-requires c κs = search needs
 
-shared-slice-read-number : tie.Need-shared-slice-read-number Inv-loop μ-loop
-shared-slice-read-number c = search needs
+mul-print-decimal : tie.Need-mul-print-decimal Inv-loop μ-loop
+mul-print-decimal c = search needs
 
-number-requires : tie.Need-number-requires Inv-loop μ-loop
-number-requires c κs = search needs
+shared-slice-read-print-decimal : tie.Need-shared-slice-read-print-decimal Inv-loop μ-loop
+shared-slice-read-print-decimal c = search needs
+
+print-decimal-requires : tie.Need-print-decimal-requires Inv-loop μ-loop
+print-decimal-requires c κs = search needs
 
 add-i : tie.Need-add-i Inv-loop μ-loop
 add-i c = search needs
@@ -47,12 +50,13 @@ numbers-spec =
     (tie.spec
     Inv-loop
     μ-loop
-    write-all-requires
+    copy-text-requires
     loop-holds
-    slice-aggregate-number
-    mul-number
-    shared-slice-read-number
-    number-requires
+    slice-aggregate-write-all
+    write-all-requires
+    mul-print-decimal
+    shared-slice-read-print-decimal
+    print-decimal-requires
     add-i
     loop-less
     loop-again
