@@ -9,10 +9,12 @@ use lib.Seq.{take-at, drop-append-add, drop-drop, length-take-le}
 use Rattle.map_output.specs.MapOutput.{Written, Rendered}
 
 -- two texts, the second at the position behind the first
-module _ {m n : ℕ} {a b before between after : List ℕ} {at p q : ℕ} (fits : at ≤ length before)
-    (first : Written m a before at between p) (second : Written n b between p after q) where
+module _ {m n : ℕ} {a b before between after : List ℕ} {at p q : ℕ} (first : Written m a before at between p)
+    (second : Written n b between p after q) where
   front-length : length (take at before ++ a) ≡ p
-  front-length = length-append (take at before) a ∙ ap (λ (k : ℕ). k + length a) (length-take-le at before fits) ∙ sym (first .position)
+  front-length =
+      let fits : at ≤ length before = omega (arith, first .position, first .room) in
+      length-append (take at before) a ∙ ap (λ (k : ℕ). k + length a) (length-take-le at before fits) ∙ sym (first .position)
 
   front : take p between ≡ take at before ++ a
   front = ap (take p) (first .content) ∙ take-at (take at before ++ a) (drop p before) p front-length
@@ -33,19 +35,22 @@ module _ {m n : ℕ} {a b before between after : List ℕ} {at p q : ℕ} (fits 
             second .content ∙ ap (λ (l : List ℕ). l ++ b ++ drop q between) front ∙ ap (λ (l : List ℕ). take at before ++ a ++ b ++ l) rest
             ∙ ap (λ (l : List ℕ). l ++ drop q before) (append-assoc (take at before) a b);
         within = omega (arith, first .within, second .within);
+        room = omega (arith, second .room, first .same);
         same = second .same ∙ first .same;
       }
 
 -- a text that has room for more
-pub written-within : {m n : ℕ} {text before after : List ℕ} {at next : ℕ} → m ≤ n → Written m text before at after next → Written n text before at after next
-written-within h w = record { position = w .position; content = w .content; within = omega (arith, w .within); same = w .same }
+pub written-within : {m n : ℕ} {text before after : List ℕ} {at next : ℕ} → m ≤ n
+    → Written m text before at after next → Written n text before at after next
+written-within h w =
+    record { position = w .position; content = w .content; within = omega (arith, w .within); room = w .room; same = w .same }
 
 -- a text at the start
-pub written-first : {m : ℕ} {text before after : List ℕ} {count : ℕ} → m ≤ length before → Written m text before 0 after count
+pub written-first : {m : ℕ} {text before after : List ℕ} {count : ℕ} → Written m text before 0 after count
     → Rendered text before after count
-written-first {text = text} {before = before} {after = after} {count = count} h w =
+written-first {text = text} {before = before} {after = after} {count = count} w =
     let e = w .position ∙ zero-add (length text) in
-    let fits : count ≤ length after = omega (arith, w .within, w .same) in
+    let fits : count ≤ length after = omega (arith, w .room, w .same) in
     record {
       counts = e;
       content = w .content ∙ ap (λ (k : ℕ). text ++ drop k before) e;

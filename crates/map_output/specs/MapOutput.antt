@@ -1,7 +1,7 @@
 -- The map program's output (RULES.md, Map program), in ASCII: what the contracts of `map_output` cite. Assumes nothing.
 use Prim.Native.Nat.{ℕ, _+_, _-_, _≤_}
 use mathlib.Core.Path.{_≡_}
-use mathlib.Core.Bool.{cond}
+use mathlib.Core.Bool.{Bool, cond}
 use mathlib.Core.List.{List, [], _∷_, _++_}
 use lib.Dec.{eqb}
 use lib.ListN.{length, take, drop}
@@ -20,13 +20,17 @@ line label value = label ++ (32 ∷ []) ++ value ++ (10 ∷ [])
 unfoldable pub numberLine : List ℕ → ℕ → List ℕ
 numberLine label number = line label (decimal number)
 
+-- a line whose value is one of two words: the first where the test holds
+unfoldable pub eitherLine : List ℕ → Bool → List ℕ → List ℕ → List ℕ
+eitherLine label test one other = line label (cond test one other)
+
 -- the mark: VERA for that magic, TRUE for any other
 unfoldable pub magicLine : ℕ → List ℕ
-magicLine magic = line (ascii "mark") (cond (eqb magic vera) veraMagic trueMagic)
+magicLine magic = eitherLine (ascii "mark") (eqb magic vera) veraMagic trueMagic
 
 -- the kind: hidden for that kind, standard for any other
 unfoldable pub kindLine : ℕ → List ℕ
-kindLine kind = line (ascii "kind") (cond (eqb kind hidden) (ascii "hidden") (ascii "standard"))
+kindLine kind = eitherLine (ascii "kind") (eqb kind hidden) (ascii "hidden") (ascii "standard")
 
 -- what the header says of itself
 unfoldable pub headerLines : Layout → List ℕ
@@ -79,4 +83,5 @@ pub record Written (most : ℕ) (text before : List ℕ) (at : ℕ) (after : Lis
   pub position : next ≡ at + length text
   pub content : after ≡ take at before ++ text ++ drop next before
   pub within : next ≤ at + most
+  pub room : next ≤ length before
   pub same : length after ≡ length before

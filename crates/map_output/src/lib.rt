@@ -4,7 +4,7 @@ ghost use mathlib.Core.Path.{_≡_};
 ghost use Prim.Native.Nat.{_+_, _*_, _%_, _≤_};
 ghost use lib.ListN.{length};
 ghost use Rattle.map_output.specs.Decimal.{Spelled};
-ghost use Rattle.map_output.specs.MapOutput.{line, numberLine, magicLine, kindLine, lineRoom};
+ghost use Rattle.map_output.specs.MapOutput.{line, numberLine, eitherLine, magicLine, kindLine, lineRoom};
 ghost use Rattle.map_output.specs.MapOutput.{headerLines, areaLines, sectorLines, lastSector, layoutLines, refusalLine};
 ghost use Rattle.map_output.specs.MapOutput.{Written, Rendered};
 use layout::Layout;
@@ -51,11 +51,7 @@ fn put_magic(out: &mut [u8], at: usize, magic: u64) -> usize
     requires { ⌜ at + lineRoom ≤ length (now out) ⌝ }
     ensures { λ r. ⌜ Written lineRoom (magicLine magic) (now (out .entry)) at (now (out .exit)) r ⌝ }
 {
-    if magic == header::VERA {
-        put_line(out, at, b"mark", b"VERA")
-    } else {
-        put_line(out, at, b"mark", b"TRUE")
-    }
+    put_either(out, at, b"mark", magic == header::VERA, b"VERA", b"TRUE")
 }
 
 // Where the data area lies in its host, in bytes.
@@ -73,11 +69,14 @@ fn put_kind(out: &mut [u8], at: usize, kind: u64) -> usize
     requires { ⌜ at + lineRoom ≤ length (now out) ⌝ }
     ensures { λ r. ⌜ Written lineRoom (kindLine kind) (now (out .entry)) at (now (out .exit)) r ⌝ }
 {
-    if kind == layout::HIDDEN {
-        put_line(out, at, b"kind", b"hidden")
-    } else {
-        put_line(out, at, b"kind", b"standard")
-    }
+    put_either(
+        out,
+        at,
+        b"kind",
+        kind == layout::HIDDEN,
+        b"hidden",
+        b"standard",
+    )
 }
 
 // The same in sectors of the host.
@@ -99,6 +98,28 @@ fn last_sector(layout: Layout) -> u64
         first
     } else {
         first + (sectors - 1)
+    }
+}
+
+// A line whose value is one of two words.
+fn put_either(
+    out: &mut [u8],
+    at: usize,
+    label: &[u8],
+    test: bool,
+    one: &[u8],
+    other: &[u8],
+) -> usize
+    requires { ⌜ length (now label) ≤ 8 ⌝ }
+    requires { ⌜ length (now one) ≤ 20 ⌝ }
+    requires { ⌜ length (now other) ≤ 20 ⌝ }
+    requires { ⌜ at + lineRoom ≤ length (now out) ⌝ }
+    ensures { λ r. ⌜ Written lineRoom (eitherLine (now (label .entry)) test (now (one .entry)) (now (other .entry))) (now (out .entry)) at (now (out .exit)) r ⌝ }
+{
+    if test {
+        put_line(out, at, label, one)
+    } else {
+        put_line(out, at, label, other)
     }
 }
 

@@ -15,7 +15,7 @@ use Rattle.sector_map.specs.SectorMap.{sectors, firstSector, hostSector, userSe
 use Rattle.view.specs.Access.{checked, extentStart, touches, readNumber, writeNumber, after}
 use Rattle.view.specs.Views.{areaEnd, protectionRule, soundView, plainOf, protectedOf, nests, plainView, protectedView}
 use Rattle.map_output.specs.Decimal.{digits, decimal}
-use Rattle.map_output.specs.MapOutput.{line, numberLine, magicLine, kindLine, headerLines, areaLines, sectorLines, lastSector, layoutLines}
+use Rattle.map_output.specs.MapOutput.{line, numberLine, eitherLine, magicLine, kindLine, headerLines, areaLines, sectorLines, lastSector, layoutLines}
 use Rattle.guarantees.specs.MapProgram.{letters}
 use Rattle.worked_cases.specs.WorkedCases.{bytesOf, fieldBytes, headerWith, toldOf, opens, volumeM, volumeN, mappedTold, tweakTold}
 use Rattle.worked_cases.specs.WorkedCases.{onView, writing, reading, leaving, Case, cases, AsWorked}
@@ -33,7 +33,7 @@ table = refl
 
 output : layoutLines volumeM
     ≡ letters "mark TRUE\nversion 5\nneeds 7\nkind standard\nhost 1048576\nstart 131072\nsize 786432\nsectors 1536\nfirst 256\nlast 1791\n"
-unfolding layoutLines headerLines areaLines sectorLines magicLine kindLine numberLine line decimal digits sectors firstSector lastSector volumeM
+unfolding layoutLines headerLines areaLines sectorLines magicLine kindLine eitherLine numberLine line decimal digits sectors firstSector lastSector volumeM
 output = refl
 
 pub as-worked : AsWorked

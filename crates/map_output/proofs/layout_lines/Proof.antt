@@ -1,6 +1,5 @@
 -- `map_output::layout_lines` meets its contract.
 -- Assumes nothing.
-use native.Mathlib.Omega.{arith}
 use Rattle.map_output.specs.MapOutput.{layoutLines}
 use Rattle.map_output.proofs.WrittenLaws.{written-append, written-first}
 use borrow.Author.Needs.{needs}
@@ -19,10 +18,9 @@ put-sectors-requires c κs = search needs
 returns : tie.Need-returns
 unfolding layoutLines
 returns c =
-    let header = c .before .before .before .before .put-header .ensures in
-    let area = c .before .before .put-area .ensures in
-    let sectors = c .put-sectors .ensures in
-    written-first (omega arith) (written-append (omega arith) (written-append (omega arith) header area) sectors)
+    let area = c .before .before in
+    let header = area .before .before in
+    written-first (written-append (written-append (header .put-header .ensures) (area .put-area .ensures)) (c .put-sectors .ensures))
 
 pub layout-lines-spec : {M : Type 1} → statement M
 layout-lines-spec =

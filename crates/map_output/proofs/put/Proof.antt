@@ -67,6 +67,7 @@ returns c =
           c .before .loop .inv .2
           ∙ ap (λ (l : List ℕ). take (a .at) (now (a .out)) ++ l ++ drop (a .at + i) (now (a .out))) (take-all i (now (a .bytes)) (omega arith));
       within = omega arith;
+      room = omega arith;
       same = c .before .loop .inv .1;
     }
 

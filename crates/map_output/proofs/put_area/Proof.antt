@@ -1,6 +1,5 @@
 -- `map_output::put_area` meets its contract.
 -- Assumes nothing.
-use native.Mathlib.Omega.{arith}
 use Rattle.map_output.specs.MapOutput.{areaLines}
 use Rattle.map_output.proofs.WrittenLaws.{written-append}
 use borrow.Author.Needs.{needs}
@@ -34,11 +33,15 @@ same-length c = search needs
 returns : tie.Need-returns
 unfolding areaLines
 returns c =
-    let kind = c .before .before .before .before .before .before .before .before .before .before .before .before .before .before .before .before .before .put-kind .ensures in
-    let host = c .before .before .before .before .before .before .before .before .before .before .before .before .put-number .ensures in
-    let start = c .before .before .before .before .before .before .before .put-number2 .ensures in
-    let size = c .before .before .put-number3 .ensures in
-    written-append (omega arith) (written-append (omega arith) (written-append (omega arith) kind host) start) size
+    let size = c .before .before in
+    let start-done = size .before .before .before in
+    let start = start-done .before .before in
+    let host-done = start .before .before .before in
+    let host = host-done .before .before in
+    let kind-done = host .before .before .before in
+    let kind = kind-done .before .before in
+    let in-host = written-append (kind .put-kind .ensures) (host .put-number .ensures) in
+    written-append (written-append in-host (start .put-number2 .ensures)) (size .put-number3 .ensures)
 
 pub put-area-spec : {M : Type 1} → statement M
 put-area-spec =

@@ -1,6 +1,5 @@
 -- `map_output::put_header` meets its contract.
 -- Assumes nothing.
-use native.Mathlib.Omega.{arith}
 use Rattle.map_output.specs.MapOutput.{headerLines}
 use Rattle.map_output.proofs.WrittenLaws.{written-append}
 use borrow.Author.Needs.{needs}
@@ -28,10 +27,12 @@ same-length c = search needs
 returns : tie.Need-returns
 unfolding headerLines
 returns c =
-    let magic = c .before .before .before .before .before .before .before .before .before .before .before .before .put-magic .ensures in
-    let version = c .before .before .before .before .before .before .before .put-number .ensures in
-    let needs = c .before .before .put-number2 .ensures in
-    written-append (omega arith) (written-append (omega arith) magic version) needs
+    let needs = c .before .before in
+    let version-done = needs .before .before .before in
+    let version = version-done .before .before in
+    let magic-done = version .before .before .before in
+    let magic = magic-done .before .before in
+    written-append (written-append (magic .put-magic .ensures) (version .put-number .ensures)) (needs .put-number2 .ensures)
 
 pub put-header-spec : {M : Type 1} → statement M
 put-header-spec =

@@ -1,54 +1,36 @@
 -- `map_output::put_kind` meets its contract.
 -- Assumes nothing.
-use borrow.Author.Tests.{eq-eqb, ne-eqb}
-use Rattle.map_output.specs.MapOutput.{kindLine}
 use borrow.Author.Needs.{needs}
+use Rattle.map_output.specs.MapOutput.{kindLine}
 use Rattle.map_output.proofs.put_kind.Statement.{statement}
 use Rattle.map_output.proofs.put_kind.Tie as tie
 
-slice-aggregate-put-line : tie.Need-slice-aggregate-put-line
-slice-aggregate-put-line c = search needs
+slice-aggregate-put-either : tie.Need-slice-aggregate-put-either
+slice-aggregate-put-either c = search needs
 
-slice-aggregate-put-line-2 : tie.Need-slice-aggregate-put-line-2
-slice-aggregate-put-line-2 c = search needs
+slice-aggregate-put-either-2 : tie.Need-slice-aggregate-put-either-2
+slice-aggregate-put-either-2 c = search needs
 
-put-line-requires : tie.Need-put-line-requires
-put-line-requires c κs = search needs
+slice-aggregate-put-either-3 : tie.Need-slice-aggregate-put-either-3
+slice-aggregate-put-either-3 c = search needs
 
-slice-aggregate-put-line-3 : tie.Need-slice-aggregate-put-line-3
-slice-aggregate-put-line-3 c = search needs
-
-slice-aggregate-put-line-4 : tie.Need-slice-aggregate-put-line-4
-slice-aggregate-put-line-4 c = search needs
-
-put-line-requires-2 : tie.Need-put-line-requires-2
-put-line-requires-2 c κs = search needs
+put-either-requires : tie.Need-put-either-requires
+put-either-requires c κs = search needs
 
 same-length : tie.Need-same-length
 same-length c = search needs
 
 returns : tie.Need-returns
 unfolding kindLine
-returns c = rw (eq-eqb _ _ (c .before .before .before .before .before .before .if1 .taken)) (c .before .before .put-line .ensures)
-
-same-length-2 : tie.Need-same-length-2
-same-length-2 c = search needs
-
-returns-2 : tie.Need-returns-2
-unfolding kindLine
-returns-2 c = rw (ne-eqb _ _ (c .before .before .before .before .before .before .if1 .left)) (c .before .before .put-line2 .ensures)
+returns c = c .before .before .put-either .ensures
 
 pub put-kind-spec : {M : Type 1} → statement M
 put-kind-spec =
     tie.close
     (tie.spec
-    slice-aggregate-put-line
-    slice-aggregate-put-line-2
-    put-line-requires
-    slice-aggregate-put-line-3
-    slice-aggregate-put-line-4
-    put-line-requires-2
+    slice-aggregate-put-either
+    slice-aggregate-put-either-2
+    slice-aggregate-put-either-3
+    put-either-requires
     same-length
-    returns
-    same-length-2
-    returns-2)
+    returns)

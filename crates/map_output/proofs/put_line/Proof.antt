@@ -1,7 +1,8 @@
 -- `map_output::put_line` meets its contract.
 -- Assumes nothing.
+use mathlib.Core.List.{[], _∷_}
 use native.Mathlib.Omega.{arith}
-use Rattle.map_output.specs.MapOutput.{line}
+use Rattle.map_output.specs.MapOutput.{line, Written}
 use Rattle.map_output.proofs.WrittenLaws.{written-append, written-within}
 use borrow.Author.Needs.{needs}
 use Rattle.map_output.proofs.put_line.Statement.{statement}
@@ -31,12 +32,18 @@ same-length c = search needs
 returns : tie.Need-returns
 unfolding line
 returns c =
-    let label = c .before .before .before .before .before .before .before .before .before .before .before .before .before .before .before .before .put .ensures in
-    let space = c .before .before .before .before .before .before .before .before .before .before .before .put2 .ensures in
-    let value = c .before .before .before .before .before .before .before .put3 .ensures in
-    let feed = c .before .before .put4 .ensures in
-    written-within (omega arith)
-    (written-append (omega arith) (written-append (omega arith) (written-append (omega arith) label space) value) feed)
+    let feed = c .before .before in
+    let value-done = feed .before .before .before in
+    let value = value-done .before .before in
+    let space-done = value .before .before in
+    let space = space-done .before .before in
+    let label-done = space .before .before .before in
+    let label = label-done .before .before in
+    let lent = label .before .before in
+    let start = lent .before .before .before in
+    let fed : Written 1 (10 ∷ []) _ _ _ _ = feed .put4 .ensures in
+    let labelled = written-append (label .put .ensures) (space .put2 .ensures) in
+    written-within (omega (arith, start .pre)) (written-append (written-append labelled (value .put3 .ensures)) fed)
 
 pub put-line-spec : {M : Type 1} → statement M
 put-line-spec =

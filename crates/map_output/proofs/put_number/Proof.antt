@@ -32,11 +32,13 @@ same-length c = search needs
 returns : tie.Need-returns
 unfolding numberLine
 returns c =
-    let d = c .before .before .before .before .before .before .decimal in
+    let call = c .before .before in
+    let lent = call .before .before in
+    let d = lent .before .before .decimal in
     let bytes : List ℕ = d .last .1 .0 in
     let rest : length (drop (d .result) bytes) ≤ 20 - d .result = simp length-drop (omega (arith, d .ensures .size)) in
     let whole : take (20 - d .result) (drop (d .result) bytes) ≡ drop (d .result) bytes = take-all _ _ rest in
-    rw (← d .ensures .content, ← whole) (c .before .before .put-line .ensures)
+    rw (← d .ensures .content, ← whole) (call .put-line .ensures)
 
 pub put-number-spec : {M : Type 1} → statement M
 put-number-spec =

@@ -1,6 +1,5 @@
 -- `map_output::put_sectors` meets its contract.
 -- Assumes nothing.
-use native.Mathlib.Omega.{arith}
 use Rattle.sector_map.specs.SectorMap.{sectors, firstSector}
 use Rattle.map_output.specs.MapOutput.{sectorLines}
 use Rattle.map_output.proofs.WrittenLaws.{written-append}
@@ -35,10 +34,15 @@ same-length c = search needs
 returns : tie.Need-returns
 unfolding sectorLines sectors firstSector
 returns c =
-    let count = c .before .before .before .before .before .before .before .before .before .before .before .before .before .before .put-number .ensures in
-    let first = c .before .before .before .before .before .before .before .before .put-number2 .ensures in
-    let last = c .before .before .put-number3 .ensures in
-    rw (← c .before .before .before .last-sector .ensures) (written-append (omega arith) (written-append (omega arith) count first) last)
+    let last = c .before .before in
+    let sector = last .before in
+    let first-done = sector .before .before .before in
+    let first = first-done .before .before in
+    let named = first .before .before in
+    let count-done = named .before .before in
+    let count = count-done .before .before in
+    let lines = written-append (written-append (count .put-number .ensures) (first .put-number2 .ensures)) (last .put-number3 .ensures) in
+    rw (← sector .last-sector .ensures) lines
 
 pub put-sectors-spec : {M : Type 1} → statement M
 put-sectors-spec =

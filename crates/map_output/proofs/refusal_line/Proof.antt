@@ -1,6 +1,5 @@
 -- `map_output::refusal_line` meets its contract.
 -- Assumes nothing.
-use native.Mathlib.Omega.{arith}
 use Rattle.map_output.specs.MapOutput.{refusalLine}
 use Rattle.map_output.proofs.WrittenLaws.{written-first}
 use borrow.Author.Needs.{needs}
@@ -15,7 +14,7 @@ put-number-requires c κs = search needs
 
 returns : tie.Need-returns
 unfolding refusalLine
-returns c = written-first (omega arith) (c .put-number .ensures)
+returns c = written-first (c .put-number .ensures)
 
 pub refusal-line-spec : {M : Type 1} → statement M
 refusal-line-spec = tie.close (tie.spec slice-aggregate-put-number put-number-requires returns)
