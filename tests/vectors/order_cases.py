@@ -1,4 +1,4 @@
-"""Two lists of calls, of an outer view in slot 0 and a hidden one in slot 1, merged in three orders, each from the same image."""
+"""Two lists of calls, of an outer view in slot 0 and a hidden one in slot 1, merged in three orders from one image."""
 from .calls import plain, protect, reads, writes, YES
 from .sectors import hidden_layout
 
