@@ -10,15 +10,16 @@ use lib.Dec.{leb}
 use lib.ListN.{length}
 use Rattle.numbers.specs.Numbers.{bigEndian}
 use Rattle.crc32.specs.Crc32.{crc32}
-use Rattle.header.specs.Bytes.{part, sameBytes, allZero}
+use Rattle.numbers.specs.Bytes.{part, sameBytes, allZero}
 use Rattle.header.specs.Header.{veraMagic, trueMagic, magicOf, checksumsMatch, isHeader}
-use Rattle.guarantees.specs.Header.{IsVera, IsTrue, IsHeader, AllZero}
+use Rattle.guarantees.specs.Header.{IsVera, IsTrue, IsHeader}
+use Rattle.guarantees.specs.Numbers.{AllZero}
 use Rattle.guarantees.proofs.Reflects.{Reflects, holds, fails, reflects-map, reflects-and, reflects-eqb, reflects-nil, reflects-cons}
 
 nil-is-not-cons : {b : ℕ} {bytes : List ℕ} → [] ≡ b ∷ bytes → ⊥
 nil-is-not-cons e = let z : _≡_ {A = ℕ} 0 1 = cc in omega arith
 
-same-bytes-reflects : (xs ys : List ℕ) → Reflects (xs ≡ ys) (sameBytes xs ys)
+pub same-bytes-reflects : (xs ys : List ℕ) → Reflects (xs ≡ ys) (sameBytes xs ys)
 unfolding sameBytes
 same-bytes-reflects [] [] = holds refl
 same-bytes-reflects [] (b ∷ ys) = fails nil-is-not-cons

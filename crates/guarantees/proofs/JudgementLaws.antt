@@ -7,11 +7,9 @@ use mathlib.Core.Path.{_≡_, refl, sym, _∙_, ap, subst}
 use mathlib.Core.Bool.{Bool, cond}
 use mathlib.Core.List.{List, [], _∷_}
 use lib.ListN.{length, getD}
-use borrow.Author.Tests.{ne-eqb}
-use Rattle.layout.specs.declared.Layout.{Layout}
 use Rattle.layout.specs.declared.Opened.{Opened}
 use Rattle.layout.specs.declared.Opened.the-variants.{Accepted, Refused}
-use Rattle.header.specs.Header.{fieldsOf, firstBroken, acceptedLayout, answer, judge}
+use Rattle.header.specs.Header.{acceptedLayout, judge}
 use Rattle.guarantees.specs.Header.{KnownKind, IsHeader, Line, version, reserved, flags, sectorSize, hiddenSize, dataArea, number, Keeps, FirstBroken}
 use Rattle.guarantees.proofs.Reflects.{Reflects, holds, fails, below-suc}
 use Rattle.guarantees.proofs.HeaderLaws.{magic-of-says, is-header-reflects}
@@ -44,39 +42,6 @@ number-bounds sectorSize = omega arith
 number-bounds hiddenSize = omega arith
 number-bounds dataArea = omega arith
 
-module _ (kind hostSize : ℕ) (h : List ℕ) where
-  -- what the number of the first broken line says
-  data BrokenLine : ℕ → Type 0 where
-    allKept : ((line : Line) → Keeps line kind hostSize h) → BrokenLine 0
-    oneBroken : (line : Line) → FirstBroken line kind hostSize h → BrokenLine (number line)
-
-  -- the line of a number is kept
-  abbrev KeepsAt : ℕ → Type 0
-  KeepsAt n = (line : Line) → number line ≡ n → Keeps line kind hostSize h
-
-  -- one line, where those before it are kept
-  line-says : (line : Line) {b : Bool} {later : ℕ} → Reflects (Keeps line kind hostSize h) b → ((n : ℕ) → n < number line → KeepsAt n)
-      → (((n : ℕ) → n < suc (number line) → KeepsAt n) → BrokenLine later) → BrokenLine (cond b later (number line))
-  line-says line (holds p) before after =
-      after (below-suc KeepsAt (number line) before (λ other e. subst (λ l. Keeps l kind hostSize h) (sym (number-injective other line e)) p))
-  line-says line (fails f) before after = oneBroken line (record { broken = f; earlier = λ other lt. before (number other) lt other refl })
-
-  -- a kept line of the hidden size tells a known kind
-  known-kind : Keeps hiddenSize kind hostSize h → KnownKind kind
-  unfolding Keeps
-  known-kind keeps = keeps .0
-
-  first-broken-says : (index : ℕ) → IsHeader h → BrokenLine (firstBroken (Told kind hostSize index h) (fieldsOf h) h)
-  unfolding firstBroken acceptedLayout number
-  first-broken-says index r =
-      line-says version (version-reflects kind hostSize h (r .magic) (magic-of-says h)) (λ n lt line e. absurd (omega (arith, number-bounds line))) λ to5.
-      line-says reserved (reserved-reflects kind hostSize h (r .magic) (magic-of-says h)) to5 λ to6.
-      line-says flags (flags-reflects kind hostSize h) to6 λ to7.
-      line-says sectorSize (sector-size-reflects kind hostSize h) to7 λ to8.
-      line-says hiddenSize (hidden-size-reflects kind hostSize h) to8 λ to9.
-      line-says dataArea (data-area-reflects kind hostSize index h (known-kind (to9 9 (omega arith) hiddenSize refl))) to9 λ to10.
-      allKept (λ line. to10 (number line) (omega (arith, number-bounds line)) line refl)
-
 module _ (kind hostSize index : ℕ) (h : List ℕ) where
   -- what the judgement of a candidate says
   pub data Judgement : Opened → Type 0 where
@@ -84,17 +49,35 @@ module _ (kind hostSize index : ℕ) (h : List ℕ) where
     refuses : IsHeader h → (line : Line) → FirstBroken line kind hostSize h → Judgement (Refused (number line))
     refuses4 : (IsHeader h → ⊥) → Judgement (Refused 4)
 
-  answer-says : {n : ℕ} → IsHeader h → BrokenLine kind hostSize h n → Judgement (answer n (Told kind hostSize index h))
-  unfolding answer
-  answer-says r (allKept keeps) = accepts r keeps
-  answer-says r (oneBroken line breaks) = rw (ne-eqb (number line) 0 (omega (arith, number-bounds line))) (refuses r line breaks)
+  header-says : {b : Bool} {later : Opened} → Reflects (IsHeader h) b → (IsHeader h → Judgement later) → Judgement (cond b later (Refused 4))
+  header-says (holds r) after = after r
+  header-says (fails f) after = refuses4 f
+
+  -- the line of a number is kept
+  abbrev KeepsAt : ℕ → Type 0
+  KeepsAt n = (line : Line) → number line ≡ n → Keeps line kind hostSize h
+
+  -- one line of a header, where those before it are kept
+  line-says : IsHeader h → (line : Line) {b : Bool} {later : Opened} → Reflects (Keeps line kind hostSize h) b
+      → ((n : ℕ) → n < number line → KeepsAt n) → (((n : ℕ) → n < suc (number line) → KeepsAt n) → Judgement later)
+      → Judgement (cond b later (Refused (number line)))
+  line-says r line (holds p) before after =
+      after (below-suc KeepsAt (number line) before (λ other e. subst (λ l. Keeps l kind hostSize h) (sym (number-injective other line e)) p))
+  line-says r line (fails f) before after = refuses r line (record { broken = f; earlier = λ other lt. before (number other) lt other refl })
+
+  -- a kept line of the hidden size tells a known kind
+  known-kind : Keeps hiddenSize kind hostSize h → KnownKind kind
+  unfolding Keeps
+  known-kind keeps = keeps .0
 
   pub judge-says : length h ≡ 512 → Judgement (judge kind hostSize index h)
-  unfolding judge
-  judge-says size = go (is-header-reflects h size)
-    where
-      go : {b : Bool} → Reflects (IsHeader h) b
-          → Judgement
-          (cond b (answer (firstBroken (Told kind hostSize index h) (fieldsOf h) h) (Told kind hostSize index h)) (Refused 4))
-      go (holds r) = answer-says r (first-broken-says kind hostSize h index r)
-      go (fails f) = refuses4 f
+  unfolding judge number
+  judge-says size =
+      header-says (is-header-reflects h size) λ r.
+      line-says r version (version-reflects kind hostSize h (r .magic) (magic-of-says h)) (λ n lt line e. absurd (omega (arith, number-bounds line))) λ to5.
+      line-says r reserved (reserved-reflects kind hostSize h (r .magic) (magic-of-says h)) to5 λ to6.
+      line-says r flags (flags-reflects kind hostSize h) to6 λ to7.
+      line-says r sectorSize (sector-size-reflects kind hostSize h) to7 λ to8.
+      line-says r hiddenSize (hidden-size-reflects kind hostSize h) to8 λ to9.
+      line-says r dataArea (data-area-reflects kind hostSize index h (known-kind (to9 9 (omega arith) hiddenSize refl))) to9 λ to10.
+      accepts r (λ line. to10 (number line) (omega (arith, number-bounds line)) line refl)

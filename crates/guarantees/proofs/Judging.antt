@@ -12,20 +12,16 @@ use borrow.Author.Tests.{ne-eqb}
 use Rattle.layout.specs.declared.Layout.{Layout}
 use Rattle.layout.specs.declared.Opened.{Opened}
 use Rattle.layout.specs.declared.Opened.the-variants.{Accepted, Refused}
-use Rattle.header.specs.Header.{magicOf, fieldsOf, checksumsMatch, isHeader, firstBroken, reservedRule, judge}
+use Rattle.header.specs.Header.{magicOf, fieldsOf, checksumsMatch, isHeader, reservedRule, judge}
 use Rattle.opening.specs.Opening.{keysOffset, keysSize}
 use Rattle.guarantees.specs.Header.{IsHeader, Line, number, Keeps, FirstBroken, Tells}
 use Rattle.guarantees.specs.Judging.{KeepsRules, JudgesExactly, GivesKeys}
-use Rattle.guarantees.proofs.Reflects.{Reflects, holds, fails, is-false, reflects-eqb}
+use Rattle.guarantees.proofs.Reflects.{Reflects, holds, fails, is-false, true-exactly, reflects-eqb}
 use Rattle.guarantees.proofs.RuleReflections.{host-size-reflects}
 use Rattle.guarantees.proofs.SoundLaws.{sound-reflects, data-area-rule-reflects}
 use Rattle.guarantees.proofs.HeaderLaws.{is-header-reflects}
 use Rattle.guarantees.proofs.ToldLaws.{Told, layout-tells}
 use Rattle.guarantees.proofs.JudgementLaws.{Judgement, accepts, refuses, refuses4, judge-says}
-
-true-exactly : {P : Type 0} {b : Bool} → Reflects P b → (b ≡ true) ↔ P
-true-exactly (holds p) = (λ e. p, λ q. refl)
-true-exactly (fails f) = (λ e. let z : _≡_ {A = ℕ} 0 1 = cc in absurd (omega arith), λ q. absurd (f q))
 
 pub keeps-rules : KeepsRules
 keeps-rules =
@@ -45,7 +41,7 @@ module _ (kind hostSize index : ℕ) where
   -- a candidate is judged by its length and its bytes from 64 on
   judge-same : (h other : List ℕ) → length h ≡ length other → drop 64 h ≡ drop 64 other
       → judge kind hostSize index h ≡ judge kind hostSize index other
-  unfolding judge isHeader magicOf fieldsOf checksumsMatch firstBroken reservedRule
+  unfolding judge isHeader magicOf fieldsOf checksumsMatch reservedRule
   judge-same h other size same =
       let at : (k : ℕ) → drop (64 + k) h ≡ drop (64 + k) other = same-behind h other same in
       rw (size, same, at 4, at 6, at 8, at 12, at 28, at 36, at 44, at 52, at 60, at 64, at 68, at 188, at 192)

@@ -8,11 +8,12 @@ use mathlib.Core.Bool.{Bool, true, _&&_, cond, and-assoc}
 use mathlib.Core.List.{List}
 use lib.Dec.{eqb}
 use Rattle.layout.specs.Rules.{standard, hidden, placeRule, sectorsRule, dataAreaRule}
-use Rattle.header.specs.Bytes.{part, allZero}
+use Rattle.numbers.specs.Bytes.{part, allZero}
 use Rattle.layout.specs.declared.Layout.{Layout}
 use Rattle.header.specs.Header.{fieldsOf, acceptedLayout}
 use Rattle.header.specs.Header.{versionRule, reservedRule, flagsRule, sectorSizeRule, hiddenSizeRule, areaRule}
-use Rattle.guarantees.specs.Header.{KnownKind, IsVera, IsTrue, AllZero, version, reserved, flags, sectorSize, hiddenSize, dataArea, DataArea, Keeps}
+use Rattle.guarantees.specs.Header.{KnownKind, IsVera, IsTrue, version, reserved, flags, sectorSize, hiddenSize, dataArea, DataArea, Keeps}
+use Rattle.guarantees.specs.Numbers.{AllZero}
 use Rattle.guarantees.proofs.Reflects.{Reflects, holds, fails, reflects-map, reflects-and, reflects-not, reflects-eqb, reflects-leb}
 use Rattle.guarantees.proofs.HeaderLaws.{MagicIs, spellsVera, spellsTrue, spellsNeither, all-zero-reflects}
 use Rattle.guarantees.proofs.ToldLaws.{Told, layout-tells, tells-area}

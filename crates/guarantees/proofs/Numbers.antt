@@ -7,12 +7,14 @@ use mathlib.Core.Bool.{cond}
 use mathlib.Core.List.{List, [], _∷_, _++_, reverse, reverse-cons}
 use lib.Bits.{bitXor, xor-zero-l}
 use lib.Dec.{eqb}
-use Rattle.numbers.specs.Numbers.{bigEndian, bigEndianFrom, littleEndian}
+use Rattle.numbers.specs.Numbers.{bigEndian, bigEndianFrom, bigEndianBytes, littleEndian, littleEndianBytes}
 use Rattle.numbers.proofs.NumbersLaws.{big-endian-snoc}
 use Rattle.numbers.proofs.WrittenLaws.{little-endian-bytes-length, little-endian-bytes-lt, little-endian-bytes-spell}
 use Rattle.crc32.specs.Crc32.{crc32, crcFrom, bitSteps, bitStep}
 use Rattle.bits.proofs.XorLaws.{xor-cancel-left}
 use Rattle.crc32.proofs.StepLaws.{crc-from-append}
+use Rattle.guarantees.proofs.Reflects.{true-exactly}
+use Rattle.guarantees.proofs.HeaderLaws.{same-bytes-reflects, all-zero-reflects}
 use Rattle.guarantees.specs.Numbers.{SpellsNumbers, ChecksBytes, oneBit, register}
 
 little-endian-reversed : (bytes : List ℕ) → littleEndian bytes ≡ bigEndian (reverse bytes)
@@ -22,16 +24,27 @@ little-endian-reversed (byte ∷ bytes) =
     let rest = little-endian-reversed bytes in
     omega (arith, rest, big-endian-snoc (reverse bytes) byte, ap bigEndian (reverse-cons byte bytes))
 
+big-endian-bytes-reversed : (size number : ℕ) → bigEndianBytes size number ≡ reverse (littleEndianBytes size number)
+unfolding bigEndianBytes littleEndianBytes
+big-endian-bytes-reversed zero number = refl
+big-endian-bytes-reversed (suc size) number =
+    ap (λ (bytes : List ℕ). bytes ++ (number % 256 ∷ [])) (big-endian-bytes-reversed size (number / 256))
+    ∙ sym (reverse-cons (number % 256) (littleEndianBytes size (number / 256)))
+
 pub spells-numbers : SpellsNumbers
 unfolding bigEndian bigEndianFrom
 spells-numbers =
     record {
+      fields = λ field bytes. refl;
+      sameTest = λ bytes others. true-exactly (same-bytes-reflects bytes others);
+      zeroTest = λ bytes. true-exactly (all-zero-reflects bytes);
       bigNone = refl;
       bigMore = big-endian-snoc;
       littleReversed = little-endian-reversed;
       writtenSize = little-endian-bytes-length;
       writtenBytes = little-endian-bytes-lt;
       written = little-endian-bytes-spell;
+      bigWritten = big-endian-bytes-reversed;
       readModulo = λ number size r read. read .modulo;
       readWhole = λ number size r read small. read .whole small;
     }

@@ -4,6 +4,7 @@ use Prim.Native.Nat.{ℕ, zero, suc, _≤_, _<_}
 use native.Mathlib.Nat.{le-of-suc-le-suc}
 use native.Mathlib.Omega.{arith}
 use mathlib.Core.Path.{_≡_, refl, sym, subst}
+use mathlib.Core.Logic.{_↔_}
 use mathlib.Core.Bool.{Bool, true, false, _&&_, not, true≢false}
 use mathlib.Core.List.{List, [], _∷_}
 use lib.Dec.{leb, eqb}
@@ -25,6 +26,9 @@ is-false (fails f) g = refl
 pub holds-true : {P : Type 0} {b : Bool} → Reflects P b → b ≡ true → P
 holds-true (holds p) e = p
 holds-true (fails f) e = absurd (true≢false (sym e))
+
+pub true-exactly : {P : Type 0} {b : Bool} → Reflects P b → (b ≡ true) ↔ P
+true-exactly r = (holds-true r, is-true r)
 
 reflects-by : {P : Type 0} (b : Bool) → (b ≡ true → P) → (b ≡ false → P → ⊥) → Reflects P b
 reflects-by true f g = holds (f refl)

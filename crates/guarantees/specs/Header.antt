@@ -4,12 +4,13 @@ use Prim.Native.Nat.{ℕ, _+_, _/_, _%_, _≤_, _<_}
 use mathlib.Core.Path.{_≡_}
 use mathlib.Core.Logic.{_⊎_}
 use mathlib.Core.List.{List, [], _∷_}
-use lib.ListN.{length, getD, take, drop}
+use lib.ListN.{take, drop}
 use Rattle.numbers.specs.Numbers.{bigEndian, littleEndian}
 use Rattle.crc32.specs.Crc32.{crc32}
 use Rattle.layout.specs.Rules.{standard, hidden}
 use Rattle.layout.specs.declared.Layout.{Layout}
 use Rattle.header.specs.declared.Fields.{Fields}
+use Rattle.guarantees.specs.Numbers.{AllZero}
 
 -- so many bytes from an offset on
 abbrev pub bytesAt : ℕ → ℕ → List ℕ → List ℕ
@@ -41,10 +42,6 @@ pub record IsHeader (h : List ℕ) : Type 0 where
   pub magic : IsVera h ⊎ IsTrue h
   pub keys : crc32 (bytesAt 256 256 h) ≡ bigEndian (bytesAt 72 4 h)
   pub fields : crc32 (bytesAt 64 188 h) ≡ bigEndian (bytesAt 252 4 h)
-
--- every byte is zero
-unfoldable pub AllZero : List ℕ → Type 0
-AllZero bytes = (i : ℕ) → i < length bytes → getD bytes i 0 ≡ 0
 
 -- one of the two kinds; a made-up kind breaks the line of the hidden size
 abbrev pub KnownKind : ℕ → Type 0

@@ -2,16 +2,27 @@
 -- which the contracts of `numbers` and `crc32` cite and every other claim uses. Assumes nothing.
 use Prim.Native.Nat.{ℕ, _+_, _*_, _/_, _%_, _^_, _≤_, _<_}
 use mathlib.Core.Path.{_≡_}
-use mathlib.Core.Bool.{cond}
+use mathlib.Core.Logic.{_↔_}
+use mathlib.Core.Bool.{true, cond}
 use mathlib.Core.List.{List, [], _∷_, _++_, reverse}
 use lib.Bits.{bitXor}
 use lib.Dec.{eqb}
-use lib.ListN.{length, getD}
-use Rattle.numbers.specs.Numbers.{bigEndian, littleEndian, littleEndianBytes, ReadAs}
+use lib.ListN.{length, getD, take, drop}
+use Rattle.numbers.specs.Bytes.{fieldPart, sameBytes, allZero}
+use Rattle.numbers.specs.Numbers.{bigEndian, bigEndianBytes, littleEndian, littleEndianBytes, ReadAs}
+use Rattle.numbers.specs.declared.Field.{Field}
 use Rattle.crc32.specs.Crc32.{crc32}
 
--- numbers in either order
+-- every byte is zero
+unfoldable pub AllZero : List ℕ → Type 0
+AllZero bytes = (i : ℕ) → i < length bytes → getD bytes i 0 ≡ 0
+
+-- parts of bytes, tests of them, and numbers in either order
 pub record SpellsNumbers : Type 0 where
+  -- a field's bytes: so many from its offset on, cut where the bytes end
+  pub fields : (field : Field) (bytes : List ℕ) → fieldPart field bytes ≡ take (field .size) (drop (field .offset) bytes)
+  pub sameTest : (bytes others : List ℕ) → (sameBytes bytes others ≡ true) ↔ (bytes ≡ others)
+  pub zeroTest : (bytes : List ℕ) → (allZero bytes ≡ true) ↔ AllZero bytes
   -- big-endian: one byte more is one base-256 digit more, behind the others
   pub bigNone : bigEndian [] ≡ 0
   pub bigMore : (bytes : List ℕ) (byte : ℕ) → bigEndian (bytes ++ (byte ∷ [])) ≡ bigEndian bytes * 256 + byte
@@ -21,6 +32,8 @@ pub record SpellsNumbers : Type 0 where
   pub writtenSize : (size number : ℕ) → length (littleEndianBytes size number) ≡ size
   pub writtenBytes : (size number i : ℕ) → getD (littleEndianBytes size number) i 0 < 256
   pub written : (size number : ℕ) → littleEndian (littleEndianBytes size number) ≡ number % 256 ^ size
+  -- written big-endian: the same, with the bytes in reverse
+  pub bigWritten : (size number : ℕ) → bigEndianBytes size number ≡ reverse (littleEndianBytes size number)
   -- read into 64 bits: modulo 2^64, and of at most eight bytes the number itself
   pub readModulo : (number size r : ℕ) → ReadAs number size r → r ≡ number % 2 ^ 64
   pub readWhole : (number size r : ℕ) → ReadAs number size r → size ≤ 8 → r ≡ number

@@ -3,12 +3,14 @@
 use Prim.Native.Nat.{ℕ}
 use native.Mathlib.Omega.{arith}
 use mathlib.Core.Path.{_≡_, ap}
-use mathlib.Core.Bool.{Bool, true, false, cond}
+use mathlib.Core.Bool.{Bool, true, false}
 use mathlib.Core.List.{List}
-use lib.Dec.{eqb}
+use Rattle.answers.specs.Answers.{line}
 use Rattle.layout.specs.declared.Layout.{Layout}
+use Rattle.layout.specs.declared.Opened.{Opened}
 use Rattle.layout.specs.declared.Opened.the-variants.{Accepted, Refused}
-use Rattle.header.specs.Header.{magicOf, fieldsOf, isHeader, firstBroken, acceptedLayout, answer, judge}
+use Rattle.header.specs.Header.{magicOf, fieldsOf, isHeader, acceptedLayout, judge}
+use Rattle.header.specs.Header.{versionRule, reservedRule, flagsRule, sectorSizeRule, hiddenSizeRule, areaRule}
 
 -- a refusal is no acceptance
 pub refused-accepted : (number : ℕ) (layout : Layout) → Refused number ≡ Accepted layout → ⊥
@@ -17,19 +19,25 @@ refused-accepted number layout e = let z : _≡_ {A = ℕ} 0 1 = cc in omega ari
 pub accepted-one : (l k : Layout) → Accepted l ≡ Accepted k → l ≡ k
 accepted-one l k e = cc
 
--- of two tests and three answers, only the one in the middle accepts
-chosen : (a b : Bool) (l k : Layout) (number other : ℕ) → cond a (cond b (Accepted l) (Refused number)) (Refused other) ≡ Accepted k → l ≡ k
-chosen true true l k number other e = accepted-one l k e
-chosen true false l k number other e = absurd (refused-accepted number k e)
-chosen false b l k number other e = absurd (refused-accepted other k e)
+-- where checks in order accept, the first is kept, and the later ones accept
+line-accepted : (number : ℕ) (kept : Bool) (later : Opened) (layout : Layout) → line (Refused number) kept later ≡ Accepted layout → later ≡ Accepted layout
+line-accepted number true later layout e = e
+line-accepted number false later layout e = absurd (refused-accepted number layout e)
 
 pub judge-accepted : (kind hostSize index : ℕ) (h : List ℕ) (layout : Layout) → judge kind hostSize index h ≡ Accepted layout
     → acceptedLayout kind hostSize index (magicOf h) (fieldsOf h) ≡ layout
-unfolding judge answer
+unfolding judge
 judge-accepted kind hostSize index h layout e =
-    let told = acceptedLayout kind hostSize index (magicOf h) (fieldsOf h) in
-    let broken = firstBroken told (fieldsOf h) h in
-    chosen (isHeader h) (eqb broken 0) told layout broken 4 e
+    let magic = magicOf h in
+    let f = fieldsOf h in
+    let past4 = line-accepted 4 (isHeader h) _ layout e in
+    let past5 = line-accepted 5 (versionRule magic (f .version)) _ layout past4 in
+    let past6 = line-accepted 6 (reservedRule magic (f .flags) h) _ layout past5 in
+    let past7 = line-accepted 7 (flagsRule (f .flags)) _ layout past6 in
+    let past8 = line-accepted 8 (sectorSizeRule (f .«sector_size»)) _ layout past7 in
+    let past9 = line-accepted 9 (hiddenSizeRule kind (f .«hidden_size») (f .«data_size»)) _ layout past8 in
+    let told = acceptedLayout kind hostSize index magic f in
+    accepted-one told layout (line-accepted 10 (areaRule told (f .«encrypted_size»)) _ layout past9)
 
 pub judge-candidate : (kind hostSize index : ℕ) (h : List ℕ) (layout : Layout) → judge kind hostSize index h ≡ Accepted layout → index ≡ layout .candidate
 unfolding acceptedLayout

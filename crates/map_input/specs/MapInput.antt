@@ -7,7 +7,7 @@ use lib.ListN.{length}
 use Rattle.numbers.specs.Numbers.{bigEndian}
 use Rattle.layout.specs.declared.Opened.{Opened}
 use Rattle.layout.specs.declared.Opened.the-variants.{Refused}
-use Rattle.header.specs.Bytes.{part}
+use Rattle.numbers.specs.Bytes.{part}
 use Rattle.opening.specs.Opening.{opened}
 
 -- the size of the input: S in 8 bytes, one location code, one candidate of 512 bytes, and nothing more

@@ -1,14 +1,16 @@
--- Laws of a number written little-endian: its bytes one by one, what they spell, and zeros past its end. Assumes nothing.
-use mathlib.Core.Path.{_≡_, refl, ap, sym}
-use mathlib.Core.List.{List, _∷_, _++_, append-nil}
-use Prim.Native.Nat.{ℕ, zero, suc, zero-le, _+_, _-_, _/_, _%_, _^_, _≤_, _<_}
-use native.Mathlib.Nat.{mod-lt, zero-lt-suc, mod-one, pow-suc, pow-succ', div-div-eq-div-mul, div-one, div-eq-of-lt, zero-add, suc-add, pow-le-pow-right}
+-- Laws of a number written in bytes, in either order: its bytes one by one, what they spell, and zeros past its end. Assumes nothing.
+use mathlib.Core.Path.{_≡_, refl, ap, sym, _∙_}
+use mathlib.Core.List.{List, [], _∷_, _++_, append-nil}
+use Prim.Native.Nat.{ℕ, zero, suc, zero-le, _+_, _-_, _*_, _/_, _%_, _^_, _≤_, _<_}
+use native.Mathlib.Nat.{mod-lt, zero-lt-suc, mod-one, pow-suc, pow-succ', pow-le-pow-right, zero-add, add-zero, suc-add}
+use native.Mathlib.Nat.{div-div-eq-div-mul, div-one, div-eq-of-lt}
 use native.Mathlib.Numerals.{add-one}
 use native.Mathlib.Omega.{arith}
 use lib.Arith.{mod-mul}
-use lib.ListN.{length, getD, take, set, replicate}
-use lib.Seq.{take-suc-set, append-snoc, take-all}
-use Rattle.numbers.specs.Numbers.{littleEndian, littleEndianBytes}
+use lib.ListN.{length, getD, take, drop, set, replicate, length-append}
+use lib.Seq.{take-suc-set, append-snoc, take-all, drop-cons, drop-set-lt, getD-set-same, lt-length-set}
+use Rattle.numbers.specs.Numbers.{bigEndian, bigEndianFrom, bigEndianBytes, littleEndian, littleEndianBytes}
+use Rattle.numbers.proofs.NumbersLaws.{big-endian-snoc}
 
 pub little-endian-bytes-length : (size number : ℕ) → length (littleEndianBytes size number) ≡ size
 unfolding littleEndianBytes
@@ -46,11 +48,62 @@ written-end bytes n i number h e =
 
 -- ---- what the bytes spell
 
+pow-pos-256 : (size : ℕ) → 0 < 256 ^ size
+pow-pos-256 size = pow-le-pow-right {n = 256} (zero-lt-suc 255) (zero-le {n = size})
+
 pub little-endian-bytes-spell : (size number : ℕ) → littleEndian (littleEndianBytes size number) ≡ number % 256 ^ size
 unfolding littleEndian littleEndianBytes
 little-endian-bytes-spell zero number = sym (mod-one number)
 little-endian-bytes-spell (suc size) number =
-    rw (little-endian-bytes-spell size (number / 256), pow-suc, mod-mul number (pow-le-pow-right {n = 256} (zero-lt-suc 255) (zero-le {n = size})) (zero-lt-suc 255)) (omega arith)
+    rw (little-endian-bytes-spell size (number / 256), pow-suc, mod-mul number (pow-pos-256 size) (zero-lt-suc 255)) (omega arith)
+
+-- ---- big-endian: the same from behind
+
+pub big-endian-bytes-length : (size number : ℕ) → length (bigEndianBytes size number) ≡ size
+unfolding bigEndianBytes
+big-endian-bytes-length zero number = refl
+big-endian-bytes-length (suc size) number =
+    rw (length-append (bigEndianBytes size (number / 256)) (number % 256 ∷ []), big-endian-bytes-length size (number / 256), add-one)
+
+-- what is left to write and what is written, before and after a byte
+pub written-back : (bytes : List ℕ) (left number : ℕ) → 0 < left → left ≤ length bytes
+    → bigEndianBytes left number ++ drop left bytes ≡ bigEndianBytes (left - 1) (number / 256) ++ drop (left - 1) (set bytes (left - 1) (number % 256))
+unfolding bigEndianBytes
+written-back bytes zero number h k = absurd (omega arith)
+written-back bytes (suc left) number h k =
+    let e : suc left - 1 ≡ left = omega arith in
+    let inside : left < length (set bytes left (number % 256)) = lt-length-set bytes left (number % 256) k in
+    rw (e, drop-cons (set bytes left (number % 256)) left 0 inside, getD-set-same bytes left (number % 256) 0 k)
+    (rw (drop-set-lt (suc left) bytes left (number % 256) (omega arith)) (append-snoc (bigEndianBytes left (number / 256)) (number % 256) (drop (suc left) bytes)))
+
+pub written-front : (bytes : List ℕ) (left number : ℕ) → left ≤ 0 → bigEndianBytes left number ++ drop left bytes ≡ bytes
+unfolding bigEndianBytes
+written-front bytes zero number h = refl
+written-front bytes (suc left) number h = absurd (omega arith)
+
+pub big-endian-bytes-spell : (size number : ℕ) → bigEndian (bigEndianBytes size number) ≡ number % 256 ^ size
+unfolding bigEndian bigEndianFrom bigEndianBytes
+big-endian-bytes-spell zero number = sym (mod-one number)
+big-endian-bytes-spell (suc size) number =
+    let rest = big-endian-bytes-spell size (number / 256) in
+    big-endian-snoc (bigEndianBytes size (number / 256)) (number % 256) ∙ rw (rest, pow-suc, mod-mul number (pow-pos-256 size) (zero-lt-suc 255)) (omega arith)
+
+-- what bytes spell, behind so many bytes of another number, and written again
+big-endian-bytes-behind : (size a : ℕ) (bs : List ℕ) → ((i : ℕ) → getD bs i 0 < 256)
+    → bigEndianBytes (size + length bs) (bigEndianFrom a bs) ≡ bigEndianBytes size a ++ bs
+unfolding bigEndianFrom bigEndianBytes
+big-endian-bytes-behind size a [] bytes = rw (add-zero, append-nil)
+big-endian-bytes-behind size a (b ∷ bs) bytes =
+    let d : (a * 256 + b) / 256 ≡ a = omega (arith, bytes 0) in
+    let m : (a * 256 + b) % 256 ≡ b = omega (arith, bytes 0) in
+    let e : size + suc (length bs) ≡ suc size + length bs = omega arith in
+    ap (λ (n : ℕ). bigEndianBytes n (bigEndianFrom (a * 256 + b) bs)) e
+    ∙ big-endian-bytes-behind (suc size) (a * 256 + b) bs (λ i. bytes (suc i))
+    ∙ rw (d, m) (append-snoc (bigEndianBytes size a) b bs)
+
+pub big-endian-bytes-again : (bs : List ℕ) → ((i : ℕ) → getD bs i 0 < 256) → bigEndianBytes (length bs) (bigEndian bs) ≡ bs
+unfolding bigEndian bigEndianBytes
+big-endian-bytes-again bs bytes = ap (λ (n : ℕ). bigEndianBytes n (bigEndianFrom 0 bs)) (sym (zero-add (length bs))) ∙ big-endian-bytes-behind 0 0 bs bytes
 
 -- ---- past the number's end there are zeros
 

@@ -1,7 +1,7 @@
 -- Numbers of any count of bytes, in either order (RULES.md, Header bytes): what the contracts of `numbers`, and every field above it, cite. Assumes nothing.
 use Prim.Native.Nat.{ℕ, zero, suc, _+_, _*_, _/_, _%_, _^_, _≤_}
 use mathlib.Core.Path.{_≡_}
-use mathlib.Core.List.{List, [], _∷_}
+use mathlib.Core.List.{List, [], _∷_, _++_}
 
 -- the number a, written on by one base-256 digit for each byte
 unfoldable pub bigEndianFrom : ℕ → List ℕ → ℕ
@@ -17,7 +17,12 @@ unfoldable pub littleEndian : List ℕ → ℕ
 littleEndian [] = 0
 littleEndian (b ∷ bs) = b + 256 * littleEndian bs
 
--- a number as so many bytes, the first byte the least significant; what does not fit is left out
+-- a number as so many bytes, the first byte the most significant; what does not fit is left out
+unfoldable pub bigEndianBytes : ℕ → ℕ → List ℕ
+bigEndianBytes zero number = []
+bigEndianBytes (suc size) number = bigEndianBytes size (number / 256) ++ (number % 256 ∷ [])
+
+-- .. and with the first byte the least significant
 unfoldable pub littleEndianBytes : ℕ → ℕ → List ℕ
 littleEndianBytes zero number = []
 littleEndianBytes (suc size) number = number % 256 ∷ littleEndianBytes size (number / 256)

@@ -10,8 +10,8 @@ use Rattle.answers.specs.Answers.{line}
 use Rattle.layout.specs.Rules.{hostSizeRule}
 use Rattle.layout.specs.declared.Opened.{Opened}
 use Rattle.layout.specs.declared.Opened.the-variants.{Accepted, Refused}
-use Rattle.header.specs.Bytes.{part}
-use Rattle.header.specs.Header.{headerBytes, judge}
+use Rattle.numbers.specs.Bytes.{part}
+use Rattle.header.specs.Header.{headerBytes, keysField, judge}
 use Rattle.locations.specs.Locations.{codeRule, locationOf}
 
 -- the most candidates of one call
@@ -56,14 +56,14 @@ opened candidates codes hostSize =
     (line (Refused 2) (codesRule codes)
     (line (Refused 3) (hostSizeRule hostSize) (searched candidates hostSize codes)))
 
--- where the key bytes stand in the candidates: at 256 in the accepted one, and at the start where opening refuses
+-- where the key bytes stand in the candidates: in their field of the accepted one, and at the start where opening refuses
 unfoldable pub keysOffset : Opened → ℕ
-keysOffset (Accepted layout) = layout .candidate * headerBytes + 256
+keysOffset (Accepted layout) = layout .candidate * headerBytes + keysField .offset
 keysOffset (Refused number) = 0
 
--- how many key bytes there are: 256, and none where opening refuses
+-- how many key bytes there are: those of the field, and none where opening refuses
 unfoldable pub keysSize : Opened → ℕ
-keysSize (Accepted layout) = 256
+keysSize (Accepted layout) = keysField .size
 keysSize (Refused number) = 0
 
 -- the key bytes: what they hold, and that they are that part of the candidates itself, at its address: block, and offset there

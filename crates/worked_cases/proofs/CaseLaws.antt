@@ -2,13 +2,13 @@
 -- Assumes nothing.
 use mathlib.Core.Path.{_≡_, refl}
 use mathlib.Core.List.{map}
-use Rattle.numbers.specs.Numbers.{bigEndian, bigEndianFrom, littleEndian, littleEndianBytes}
+use Rattle.numbers.specs.Numbers.{bigEndian, bigEndianFrom, bigEndianBytes, littleEndian, littleEndianBytes}
 use Rattle.crc32.specs.Crc32.{crc32, crcFrom, bitSteps, bitStep}
 use Rattle.layout.specs.Rules.{hostSizeRule, placeRule, sectorsRule, dataAreaRule}
 use Rattle.layout.specs.Soundness.{sound}
-use Rattle.header.specs.Bytes.{sameBytes, allZero}
-use Rattle.header.specs.Header.{magicOf, fieldsOf, checksumsMatch, isHeader, acceptedLayout, answer, judge}
-use Rattle.header.specs.Header.{versionRule, reservedRule, flagsRule, sectorSizeRule, hiddenSizeRule, areaRule, firstBroken}
+use Rattle.numbers.specs.Bytes.{sameBytes, allZero}
+use Rattle.header.specs.Header.{magicOf, fieldsOf, checksumsMatch, isHeader, acceptedLayout, judge}
+use Rattle.header.specs.Header.{versionRule, reservedRule, flagsRule, sectorSizeRule, hiddenSizeRule, areaRule}
 use Rattle.locations.specs.Locations.{locations, locationOf, codeRule}
 use Rattle.opening.specs.Opening.{lengthsRule, codesRule, candidateAt, judgements, further, searched, opened}
 use Rattle.sector_map.specs.SectorMap.{sectors, firstSector, hostSector, userSector, tweakNumber, blockOf, tweakOf}
@@ -17,14 +17,14 @@ use Rattle.view.specs.Views.{areaEnd, protectionRule, soundView, plainOf, prote
 use Rattle.map_output.specs.Decimal.{digits, decimal}
 use Rattle.map_output.specs.MapOutput.{line, numberLine, eitherLine, magicLine, kindLine, headerLines, areaLines, sectorLines, lastSector, layoutLines}
 use Rattle.guarantees.specs.MapProgram.{letters}
-use Rattle.worked_cases.specs.WorkedCases.{bytesOf, fieldBytes, headerWith, toldOf, opens, volumeM, volumeN, mappedTold, tweakTold}
+use Rattle.worked_cases.specs.WorkedCases.{fieldBytes, headerWith, toldOf, opens, volumeM, volumeN, mappedTold, tweakTold}
 use Rattle.worked_cases.specs.WorkedCases.{onView, writing, reading, leaving, Case, cases, AsWorked}
 
 table : map (λ (c : Case). c .answer) cases ≡ map (λ (c : Case). c .expected) cases
-unfolding cases opens toldOf headerWith fieldBytes bytesOf volumeM volumeN mappedTold tweakTold
+unfolding cases opens toldOf headerWith fieldBytes bigEndianBytes volumeM volumeN mappedTold tweakTold
     opened lengthsRule codesRule codeRule hostSizeRule searched further judgements candidateAt locationOf locations
-    judge isHeader magicOf fieldsOf checksumsMatch sameBytes allZero answer acceptedLayout
-    firstBroken versionRule reservedRule flagsRule sectorSizeRule hiddenSizeRule areaRule dataAreaRule sectorsRule placeRule
+    judge isHeader magicOf fieldsOf checksumsMatch sameBytes allZero acceptedLayout
+    versionRule reservedRule flagsRule sectorSizeRule hiddenSizeRule areaRule dataAreaRule sectorsRule placeRule
     crc32 crcFrom bitStep bitSteps bigEndian bigEndianFrom littleEndian
     hostSector userSector tweakNumber tweakOf blockOf sectors firstSector sound littleEndianBytes
     onView writing reading leaving plainView protectedView plainOf protectedOf nests areaEnd protectionRule soundView

@@ -1,9 +1,10 @@
 -- The worked cases (RULES.md, Worked cases): the starred ones in one table, and the map program's output, computed from the definitions that
 -- the contracts cite. Assumes nothing.
-use Prim.Native.Nat.{ℕ, zero, suc, _-_, _*_, _/_, _%_, _^_}
+use Prim.Native.Nat.{ℕ, _-_, _*_, _/_, _^_}
 use mathlib.Core.Path.{_≡_}
 use mathlib.Core.List.{List, [], _∷_, _++_, map}
 use lib.ListN.{replicate}
+use Rattle.numbers.specs.Numbers.{bigEndianBytes}
 use Rattle.crc32.specs.Crc32.{crc32}
 use Rattle.layout.specs.declared.Opened.{Opened}
 use Rattle.layout.specs.declared.Opened.the-variants.{Accepted, Refused}
@@ -22,23 +23,19 @@ use Rattle.view.specs.declared.Viewed.the-variants as viewed
 use Rattle.map_output.specs.MapOutput.{layoutLines}
 use Rattle.guarantees.specs.MapProgram.{letters}
 
--- a number as k bytes, the most significant first
-unfoldable pub bytesOf : ℕ → ℕ → List ℕ
-bytesOf zero n = []
-bytesOf (suc k) n = bytesOf k (n / 256) ++ (n % 256 ∷ [])
-
 -- the fields of a version 5 TRUE header for a standard volume that starts at 131,072, from its magic to its last reserved byte: for the
 -- keys' checksum, V and E
 unfoldable pub fieldBytes : ℕ → ℕ → ℕ → List ℕ
 fieldBytes keyChecksum size encryptedSize =
-    trueMagic ++ bytesOf 2 5 ++ (7 ∷ 0 ∷ []) ++ bytesOf 4 keyChecksum ++ replicate 16 0 ++ bytesOf 8 0 ++ bytesOf 8 size
-    ++ bytesOf 8 131072 ++ bytesOf 8 encryptedSize ++ bytesOf 4 0 ++ bytesOf 4 512 ++ replicate 120 0
+    trueMagic ++ bigEndianBytes 2 5 ++ (7 ∷ 0 ∷ []) ++ bigEndianBytes 4 keyChecksum ++ replicate 16 0
+    ++ bigEndianBytes 8 0 ++ bigEndianBytes 8 size ++ bigEndianBytes 8 131072 ++ bigEndianBytes 8 encryptedSize
+    ++ bigEndianBytes 4 0 ++ bigEndianBytes 4 512 ++ replicate 120 0
 
 -- the header: a salt, the fields, their checksum and the keys; salt and keys are zeros
 unfoldable pub headerWith : ℕ → ℕ → ℕ → List ℕ
 headerWith keyChecksum size encryptedSize =
     let fields = fieldBytes keyChecksum size encryptedSize in
-    replicate 64 0 ++ fields ++ bytesOf 4 (crc32 fields) ++ replicate 256 0
+    replicate 64 0 ++ fields ++ bigEndianBytes 4 (crc32 fields) ++ replicate 256 0
 
 -- what a case tells of opening: the refusal number, or 0 and the count of sectors
 unfoldable pub toldOf : Opened → List ℕ

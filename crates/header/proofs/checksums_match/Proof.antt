@@ -1,28 +1,32 @@
 -- `header::checksums_match` meets its contract: the keys' checksum first, then the fields'.
 -- Assumes nothing.
+use mathlib.Core.Path.{_≡_, ap₂, _∙_}
+use mathlib.Core.List.{List, [], _∷_}
+use Prim.Native.Nat.{ℕ}
+use denote.Ref.{now}
 use borrow.Author.Tests.{eq-eqb, ne-eqb}
-use Rattle.header.specs.Header.{checksumsMatch}
+use Rattle.numbers.specs.Bytes.{fieldPart}
+use Rattle.crc32.specs.Crc32.{crc32}
+use Rattle.header.specs.Header.{keysField, checkedField, checksumsMatch}
 use borrow.Author.Needs.{needs}
 use Rattle.header.proofs.checksums_match.Statement.{statement}
 use Rattle.header.proofs.checksums_match.Tie as tie
 
-sub-checksum-pair : tie.Need-sub-checksum-pair
-sub-checksum-pair c = search needs
+-- the two checksums of the candidate
+summed : (c : tie.After-checksum-pair)
+    → let h = now (c .before .before .before .before .args .candidate) in
+    c .checksum-pair .result ≡ crc32 (fieldPart keysField h) ∷ crc32 (fieldPart checkedField h) ∷ []
+summed c =
+    let h = now (c .before .before .before .before .args .candidate) in
+    let keys : now (c .before .before .field-bytes .result) ≡ fieldPart keysField h = c .before .before .field-bytes .ensures in
+    let fields : now (c .before .field-bytes2 .result) ≡ fieldPart checkedField h = c .before .field-bytes2 .ensures in
+    c .checksum-pair .ensures ∙ ap₂ (λ (a b : List ℕ). crc32 a ∷ crc32 b ∷ []) keys fields
 
-part-checksum-pair-start : tie.Need-part-checksum-pair-start
-part-checksum-pair-start c = search needs
+field-bytes-requires : tie.Need-field-bytes-requires
+field-bytes-requires c κs = search needs
 
-part-checksum-pair-end : tie.Need-part-checksum-pair-end
-part-checksum-pair-end c = search needs
-
-sub-checksum-pair-2 : tie.Need-sub-checksum-pair-2
-sub-checksum-pair-2 c = search needs
-
-part-checksum-pair-start-2 : tie.Need-part-checksum-pair-start-2
-part-checksum-pair-start-2 c = search needs
-
-part-checksum-pair-end-2 : tie.Need-part-checksum-pair-end-2
-part-checksum-pair-end-2 c = search needs
+field-bytes-requires-2 : tie.Need-field-bytes-requires-2
+field-bytes-requires-2 c κs = search needs
 
 checksum-pair-requires : tie.Need-checksum-pair-requires
 checksum-pair-requires c κs = search needs
@@ -33,12 +37,12 @@ array-read-if1 c = search needs
 cast-if1 : tie.Need-cast-if1
 cast-if1 c = search needs
 
-field-requires : tie.Need-field-requires
-field-requires c κs = search needs
+number-requires : tie.Need-number-requires
+number-requires c κs = search needs
 
 returns : tie.Need-returns
 unfolding checksumsMatch
-returns c = simp (← c .before .field .ensures, simp (c .before .before .checksum-pair .ensures) at (ne-eqb _ _ (c .if1 .taken)))
+returns c = simp (← c .before .number .ensures, simp (summed (c .before .before)) at (ne-eqb _ _ (c .if1 .taken)))
 
 array-read-result : tie.Need-array-read-result
 array-read-result c = search needs
@@ -46,35 +50,28 @@ array-read-result c = search needs
 cast-result : tie.Need-cast-result
 cast-result c = search needs
 
-field-requires-2 : tie.Need-field-requires-2
-field-requires-2 c κs = search needs
+number-requires-2 : tie.Need-number-requires-2
+number-requires-2 c κs = search needs
 
 returns-2 : tie.Need-returns-2
 unfolding checksumsMatch
 returns-2 c =
-    simp (
-      c .before .before .before .checksum-pair .ensures,
-      ← c .before .before .field .ensures,
-      simp (c .before .before .before .checksum-pair .ensures) at (eq-eqb _ _ (c .before .if1 .left)),
-      ← c .field2 .ensures,
-    )
+    let first = c .before .before in
+    let sums = summed (first .before) in
+    simp (sums, ← first .number .ensures, simp sums at (eq-eqb _ _ (c .before .if1 .left)), ← c .number2 .ensures)
 
 pub checksums-match-spec : {M : Type 1} → statement M
 checksums-match-spec =
     tie.close
     (tie.spec
-    sub-checksum-pair
-    part-checksum-pair-start
-    part-checksum-pair-end
-    sub-checksum-pair-2
-    part-checksum-pair-start-2
-    part-checksum-pair-end-2
+    field-bytes-requires
+    field-bytes-requires-2
     checksum-pair-requires
     array-read-if1
     cast-if1
-    field-requires
+    number-requires
     returns
     array-read-result
     cast-result
-    field-requires-2
+    number-requires-2
     returns-2)

@@ -1,78 +1,55 @@
 -- `header::judge` meets its contract: no header by its length, its magic or its checksums, or judged by the first line it breaks.
 -- Assumes nothing.
-use mathlib.Core.Path.{sym, _∙_}
+use mathlib.Core.Path.{_≡_, sym, _∙_}
+use mathlib.Core.Bool.{true, false}
+use denote.Ref.{now}
 use borrow.Author.Tests.{eq-eqb, ne-eqb, le-leb, lt-leb, not-true, not-false}
-use Rattle.header.specs.Header.{judge, isHeader, answer}
+use Rattle.answers.proofs.KeptLaws.{line-broken}
+use Rattle.header.specs.Header.{judge, isHeader}
 use borrow.Author.Needs.{needs}
 use Rattle.header.proofs.judge.Statement.{statement}
 use Rattle.header.proofs.judge.Tie as tie
 
+no-header : (c : tie.Then1) → isHeader (now (c .before .before .args .candidate)) ≡ false
+unfolding isHeader
+no-header c = simp (ne-eqb _ _ (c .if1 .taken))
+
+no-magic : (c : tie.Then2) → isHeader (now (c .before .before .before .before .args .candidate)) ≡ false
+unfolding isHeader
+no-magic c = simp (eq-eqb _ _ (c .before .before .if1 .left), ← c .before .magic-of .ensures, lt-leb _ _ (c .if2 .taken))
+
+-- a header as far as its length and its magic go: its checksums decide
+by-checksums : (c : tie.After-checksums-match)
+    → let h = now (c .before .before .before .before .before .args .candidate) in
+    isHeader h ≡ c .checksums-match .result
+unfolding isHeader
+by-checksums c =
+    let magic = c .before .before in
+    simp (eq-eqb _ _ (magic .before .if1 .left), ← magic .magic-of .ensures, le-leb _ _ (c .before .if2 .left), ← c .checksums-match .ensures)
+
 returns : tie.Need-returns
-unfolding judge isHeader answer
-returns c = simp (ne-eqb _ _ (c .if1 .taken))
+unfolding judge
+returns c = sym (line-broken _ _ (no-header c))
 
 magic-of-requires : tie.Need-magic-of-requires
 magic-of-requires c κs = search needs
 
 returns-2 : tie.Need-returns-2
-unfolding judge isHeader answer
-returns-2 c = simp (eq-eqb _ _ (c .before .before .if1 .left), ← c .before .magic-of .ensures, lt-leb _ _ (c .if2 .taken))
+unfolding judge
+returns-2 c = sym (line-broken _ _ (no-magic c))
 
 checksums-match-requires : tie.Need-checksums-match-requires
 checksums-match-requires c κs = search needs
 
 returns-3 : tie.Need-returns-3
-unfolding judge isHeader answer
-returns-3 c =
-    simp (
-      eq-eqb _ _ (c .before .before .before .before .if1 .left),
-      ← c .before .before .before .magic-of .ensures,
-      le-leb _ _ (c .before .before .if2 .left),
-      sym (c .before .checksums-match .ensures) ∙ not-true _ (c .if3 .taken),
-    )
-
-read-fields-requires : tie.Need-read-fields-requires
-read-fields-requires c κs = search needs
-
-accepted-layout-requires : tie.Need-accepted-layout-requires
-accepted-layout-requires c κs = search needs
+unfolding judge
+returns-3 c = sym (line-broken _ _ (by-checksums (c .before) ∙ not-true _ (c .if3 .taken)))
 
 first-broken-requires : tie.Need-first-broken-requires
-first-broken-requires c κs = search needs
+first-broken-requires c κs = (by-checksums (c .before) ∙ not-false _ (c .if3 .left), c .before .before .before .magic-of .ensures)
 
 returns-4 : tie.Need-returns-4
-unfolding judge isHeader answer
-returns-4 c =
-    let told = c .before .before in
-    let checked = told .before .before in
-    let spelt = checked .before .before in
-    simp (
-      eq-eqb _ _ (spelt .before .before .if1 .left),
-      ← spelt .before .magic-of .ensures,
-      le-leb _ _ (spelt .if2 .left),
-      sym (checked .before .checksums-match .ensures) ∙ not-false _ (checked .if3 .left),
-      ← told .before .read-fields .ensures,
-      ← told .accepted-layout .ensures,
-      ← c .before .first-broken .ensures,
-      ne-eqb _ _ (c .if4 .taken),
-    )
-
-returns-5 : tie.Need-returns-5
-unfolding judge isHeader answer
-returns-5 c =
-    let told = c .before .before in
-    let checked = told .before .before in
-    let spelt = checked .before .before in
-    simp (
-      eq-eqb _ _ (spelt .before .before .if1 .left),
-      ← spelt .before .magic-of .ensures,
-      le-leb _ _ (spelt .if2 .left),
-      sym (checked .before .checksums-match .ensures) ∙ not-false _ (checked .if3 .left),
-      ← told .before .read-fields .ensures,
-      ← told .accepted-layout .ensures,
-      ← c .before .first-broken .ensures,
-      eq-eqb _ _ (c .if4 .left),
-    )
+returns-4 c = c .first-broken .ensures
 
 pub judge-spec : {M : Type 1} → statement M
 judge-spec =
@@ -83,8 +60,5 @@ judge-spec =
     returns-2
     checksums-match-requires
     returns-3
-    read-fields-requires
-    accepted-layout-requires
     first-broken-requires
-    returns-4
-    returns-5)
+    returns-4)

@@ -1,11 +1,19 @@
--- `header::keeps_reserved` meets its contract: the flags first, then for VERA the two reserved parts.
+-- `header::keeps_reserved` meets its contract: the flags first, then for VERA the two reserved fields.
 -- Assumes nothing.
-use mathlib.Core.Path.{sym, _∙_}
+use mathlib.Core.Path.{_≡_, sym, ap, _∙_}
+use denote.Ref.{now}
+use Rattle.numbers.specs.Bytes.{fieldPart, allZero}
 use borrow.Author.Tests.{eq-eqb, ne-eqb, not-true, not-false}
-use Rattle.header.specs.Header.{reservedRule}
+use Rattle.header.specs.Header.{reservedField, reservedRule}
 use borrow.Author.Needs.{needs}
 use Rattle.header.proofs.keeps_reserved.Statement.{statement}
 use Rattle.header.proofs.keeps_reserved.Tie as tie
+
+-- what the first field's test tells of the candidate
+first-zero : (c : tie.After-is-zero)
+    → let a = c .before .before .before .before .before .args in
+    allZero (fieldPart reservedField (now (a .candidate))) ≡ c .is-zero .result
+first-zero c = sym (c .is-zero .ensures ∙ ap allZero (c .before .field-bytes .ensures))
 
 returns : tie.Need-returns
 unfolding reservedRule
@@ -15,14 +23,8 @@ returns-2 : tie.Need-returns-2
 unfolding reservedRule
 returns-2 c = simp (eq-eqb _ _ (c .before .if1 .left), ne-eqb _ _ (c .if2 .taken))
 
-sub-is-zero : tie.Need-sub-is-zero
-sub-is-zero c = search needs
-
-part-is-zero-start : tie.Need-part-is-zero-start
-part-is-zero-start c = search needs
-
-part-is-zero-end : tie.Need-part-is-zero-end
-part-is-zero-end c = search needs
+field-bytes-requires : tie.Need-field-bytes-requires
+field-bytes-requires c κs = search needs
 
 is-zero-requires : tie.Need-is-zero-requires
 is-zero-requires c κs = search needs
@@ -30,20 +32,11 @@ is-zero-requires c κs = search needs
 returns-3 : tie.Need-returns-3
 unfolding reservedRule
 returns-3 c =
-    simp (
-      eq-eqb _ _ (c .before .before .before .before .if1 .left),
-      eq-eqb _ _ (c .before .before .before .if2 .left),
-      sym (c .before .is-zero .ensures) ∙ not-true _ (c .if3 .taken),
-    )
+    let tests = c .before .before .before in
+    simp (eq-eqb _ _ (tests .before .if1 .left), eq-eqb _ _ (tests .if2 .left), first-zero (c .before) ∙ not-true _ (c .if3 .taken))
 
-sub-is-zero-2 : tie.Need-sub-is-zero-2
-sub-is-zero-2 c = search needs
-
-part-is-zero-start-2 : tie.Need-part-is-zero-start-2
-part-is-zero-start-2 c = search needs
-
-part-is-zero-end-2 : tie.Need-part-is-zero-end-2
-part-is-zero-end-2 c = search needs
+field-bytes-requires-2 : tie.Need-field-bytes-requires-2
+field-bytes-requires-2 c κs = search needs
 
 is-zero-requires-2 : tie.Need-is-zero-requires-2
 is-zero-requires-2 c κs = search needs
@@ -51,12 +44,10 @@ is-zero-requires-2 c κs = search needs
 returns-4 : tie.Need-returns-4
 unfolding reservedRule
 returns-4 c =
-    simp (
-      eq-eqb _ _ (c .before .before .before .before .before .before .if1 .left),
-      eq-eqb _ _ (c .before .before .before .before .before .if2 .left),
-      sym (c .before .before .before .is-zero .ensures) ∙ not-false _ (c .before .before .if3 .left),
-    )
-    (c .is-zero2 .ensures)
+    let first = c .before .before in
+    let tests = first .before .before .before in
+    simp (eq-eqb _ _ (tests .before .if1 .left), eq-eqb _ _ (tests .if2 .left), first-zero (first .before) ∙ not-false _ (first .if3 .left))
+    (c .is-zero2 .ensures ∙ ap allZero (c .before .field-bytes2 .ensures))
 
 pub keeps-reserved-spec : {M : Type 1} → statement M
 keeps-reserved-spec =
@@ -64,13 +55,9 @@ keeps-reserved-spec =
     (tie.spec
     returns
     returns-2
-    sub-is-zero
-    part-is-zero-start
-    part-is-zero-end
+    field-bytes-requires
     is-zero-requires
     returns-3
-    sub-is-zero-2
-    part-is-zero-start-2
-    part-is-zero-end-2
+    field-bytes-requires-2
     is-zero-requires-2
     returns-4)

@@ -1,47 +1,68 @@
 -- `header::magic_of` meets its contract: the two words are the magics of the definition.
 -- Assumes nothing.
-use mathlib.Core.Path.{sym, _∙_}
-use Rattle.header.specs.Header.{magicOf}
+use mathlib.Core.Path.{_≡_, sym, ap, _∙_}
+use mathlib.Core.List.{List}
+use Prim.Native.Nat.{ℕ}
+use denote.Ref.{now}
+use Rattle.numbers.specs.Bytes.{fieldPart, sameBytes}
+use Rattle.header.specs.Header.{magicField, veraMagic, trueMagic, magicOf}
 use borrow.Author.Needs.{needs}
 use Rattle.header.proofs.magic_of.Statement.{statement}
 use Rattle.header.proofs.magic_of.Tie as tie
 
-sub-magic : tie.Need-sub-magic
-sub-magic c = search needs
+-- what each comparison tells of the candidate
+is-vera : (c : tie.After-same-bytes)
+    → let a = c .before .before .before .before .args in
+    sameBytes (fieldPart magicField (now (a .candidate))) veraMagic ≡ c .same-bytes .result
+is-vera c = sym (c .same-bytes .ensures ∙ ap (λ (bytes : List ℕ). sameBytes bytes veraMagic) (c .before .before .field-bytes .ensures))
 
-part-magic-start : tie.Need-part-magic-start
-part-magic-start c = search needs
+is-true : (c : tie.After-same-bytes2)
+    → let a = c .before .before .before .before .before .before .before .args in
+    sameBytes (fieldPart magicField (now (a .candidate))) trueMagic ≡ c .same-bytes2 .result
+is-true c =
+    let field = c .before .before .before .before .before in
+    sym (c .same-bytes2 .ensures ∙ ap (λ (bytes : List ℕ). sameBytes bytes trueMagic) (field .field-bytes .ensures))
 
-part-magic-end : tie.Need-part-magic-end
-part-magic-end c = search needs
+field-bytes-requires : tie.Need-field-bytes-requires
+field-bytes-requires c κs = search needs
 
-spells-requires : tie.Need-spells-requires
-spells-requires c κs = search needs
+slice-aggregate-same-bytes : tie.Need-slice-aggregate-same-bytes
+slice-aggregate-same-bytes c = search needs
+
+same-bytes-requires : tie.Need-same-bytes-requires
+same-bytes-requires c κs = search needs
 
 returns : tie.Need-returns
 unfolding magicOf
-returns c = simp (sym (c .before .spells .ensures) ∙ c .if1 .taken)
+returns c = simp (is-vera (c .before) ∙ c .if1 .taken)
 
-spells-requires-2 : tie.Need-spells-requires-2
-spells-requires-2 c κs = search needs
+slice-aggregate-same-bytes-2 : tie.Need-slice-aggregate-same-bytes-2
+slice-aggregate-same-bytes-2 c = search needs
+
+same-bytes-requires-2 : tie.Need-same-bytes-requires-2
+same-bytes-requires-2 c κs = search needs
 
 returns-2 : tie.Need-returns-2
 unfolding magicOf
-returns-2 c = simp (sym (c .before .before .before .before .spells .ensures) ∙ c .before .before .before .if1 .left, sym (c .before .spells2 .ensures) ∙ c .if2 .taken)
+returns-2 c =
+    let first = c .before .before .before in
+    simp (is-vera (first .before) ∙ first .if1 .left, is-true (c .before) ∙ c .if2 .taken)
 
 returns-3 : tie.Need-returns-3
 unfolding magicOf
-returns-3 c = simp (sym (c .before .before .before .before .spells .ensures) ∙ c .before .before .before .if1 .left, sym (c .before .spells2 .ensures) ∙ c .if2 .left)
+returns-3 c =
+    let first = c .before .before .before in
+    simp (is-vera (first .before) ∙ first .if1 .left, is-true (c .before) ∙ c .if2 .left)
 
 pub magic-of-spec : {M : Type 1} → statement M
 magic-of-spec =
     tie.close
     (tie.spec
-    sub-magic
-    part-magic-start
-    part-magic-end
-    spells-requires
+    field-bytes-requires
+    slice-aggregate-same-bytes
+    same-bytes-requires
     returns
-    spells-requires-2
+    slice-aggregate-same-bytes-2
+    same-bytes-requires-2
     returns-2
     returns-3)

@@ -1,13 +1,18 @@
--- Parts of a list of bytes, and tests of them: what the definitions of the header's fields and rules are made of. Assumes nothing.
+-- Parts of a list of bytes, and tests of them: what the fields and rules of a header are made of. Assumes nothing.
 use Prim.Native.Nat.{ℕ}
 use mathlib.Core.Bool.{Bool, true, false, _&&_}
 use mathlib.Core.List.{List, [], _∷_}
 use lib.Dec.{eqb}
 use lib.ListN.{take, drop}
+use Rattle.numbers.specs.declared.Field.{Field}
 
--- the size bytes from an offset on
+-- the size bytes from an offset on; what would lie past the end is left out
 abbrev pub part : ℕ → ℕ → List ℕ → List ℕ
 part offset size bytes = take size (drop offset bytes)
+
+-- the bytes of a field
+abbrev pub fieldPart : Field → List ℕ → List ℕ
+fieldPart field bytes = part (field .offset) (field .size) bytes
 
 -- both lists have the same bytes
 unfoldable pub sameBytes : List ℕ → List ℕ → Bool

@@ -1,0 +1,59 @@
+-- Parts of bytes cut where the bytes end, and the tests of `specs/Bytes.antt` one byte at a time, as a loop over an index goes through them.
+-- Assumes nothing.
+use Prim.Native.Nat.{ℕ, zero, suc, _+_, _-_, _≤_, _<_, min}
+use native.Mathlib.Nat.{zero-min, min-zero, suc-min-suc, add-sub-cancel-left}
+use native.Mathlib.Numerals.{add-one}
+use native.Mathlib.Omega.{arith}
+use mathlib.Core.Path.{_≡_, refl, sym, ap, _∙_}
+use mathlib.Core.Bool.{true, false, _&&_, and-false}
+use mathlib.Core.List.{List, [], _∷_}
+use lib.Dec.{eqb}
+use lib.ListN.{length, getD, take, drop, length-drop, drop-of-length-le}
+use lib.Seq.{drop-cons}
+use Rattle.numbers.specs.Bytes.{sameBytes, allZero}
+
+-- ---- parts that reach past the end
+
+module _ {A : Type 0} where
+  take-min : (k : ℕ) (l : List A) → take (min k (length l)) l ≡ take k l
+  take-min zero l = rw (zero-min (length l))
+  take-min (suc k) [] = rw (min-zero (suc k))
+  take-min (suc k) (a ∷ l) = rw (suc-min-suc k (length l)) (ap (λ (r : List A). a ∷ r) (take-min k l))
+
+  drop-min : (k : ℕ) (l : List A) → drop (min k (length l)) l ≡ drop k l
+  drop-min zero l = rw (zero-min (length l))
+  drop-min (suc k) [] = rw (min-zero (suc k))
+  drop-min (suc k) (a ∷ l) = rw (suc-min-suc k (length l)) (drop-min k l)
+
+  pub part-cut : (offset size : ℕ) {start n : ℕ} (l : List A) → start ≡ min offset (length l) → n ≡ min size (length l - start)
+      → take (start + n - start) (drop start l) ≡ take size (drop offset l)
+  part-cut offset size {start} {n} l e f =
+      rw (add-sub-cancel-left start n, f, ← length-drop start l, take-min size (drop start l), e, drop-min offset l)
+
+-- ---- every byte is zero
+
+pub all-zero-drop : (xs : List ℕ) (i : ℕ) → i < length xs → allZero (drop i xs) ≡ (eqb (getD xs i 0) 0 && allZero (drop (i + 1) xs))
+unfolding allZero
+all-zero-drop xs i h = rw (add-one, drop-cons xs i 0)
+
+pub all-zero-end : (xs : List ℕ) (i : ℕ) → length xs ≤ i → allZero (drop i xs) ≡ true
+unfolding allZero
+all-zero-end xs i h = rw (drop-of-length-le xs h)
+
+-- ---- two lists have the same bytes
+
+pub same-bytes-length : (xs ys : List ℕ) → (length xs ≡ length ys → ⊥) → sameBytes xs ys ≡ false
+unfolding sameBytes
+same-bytes-length [] [] h = absurd (h refl)
+same-bytes-length [] (y ∷ ys) h = refl
+same-bytes-length (x ∷ xs) [] h = refl
+same-bytes-length (x ∷ xs) (y ∷ ys) h = rw (same-bytes-length xs ys (λ e. h (ap suc e))) (and-false (eqb x y))
+
+pub same-bytes-drop : (xs ys : List ℕ) (i : ℕ) → i < length xs → i < length ys
+    → sameBytes (drop i xs) (drop i ys) ≡ (eqb (getD xs i 0) (getD ys i 0) && sameBytes (drop (i + 1) xs) (drop (i + 1) ys))
+unfolding sameBytes
+same-bytes-drop xs ys i h k = rw (add-one, drop-cons xs i 0, drop-cons ys i 0)
+
+pub same-bytes-end : (xs ys : List ℕ) (i : ℕ) → length xs ≤ i → length ys ≤ i → sameBytes (drop i xs) (drop i ys) ≡ true
+unfolding sameBytes
+same-bytes-end xs ys i h k = rw (drop-of-length-le xs h, drop-of-length-le ys k)
