@@ -10,13 +10,16 @@ from pathlib import Path
 
 sys.dont_write_bytecode = True
 sys.path.insert(0, str(Path(__file__).resolve().parent.parent / 'tools'))
-from declarations import HEADER, LAYOUT, RATTLE, RUST, problems, read_files, uncommented  # noqa: E402
+from declarations import (HEADER, LAYOUT, NUMBERS, OPENING, RATTLE, RUST, problems, read_files,  # noqa: E402
+                          uncommented)
 
 # The parts of each file that declare something.
 DECLARED = {
     RATTLE: r'#\[no_mangle\]\npub extern "C" fn \w+\([^)]*\)[^\n]*',
     HEADER: r'\nuint\d+_t ondristela_\w+\([^)]*\);|\nstruct \w+ \{[^}]*\n\};',
     RUST: r'\n +pub fn [^\n]*;|\npub fn \w+\([^)]*\)[^\n]*|\npub type [^\n]*|library::\w+\([^;}]*\)',
+    NUMBERS: r'\n(?:pub )?const [^\n]*|\n +numbers\[[^\n]*;|\n +store_layout\([^\n]*;(?=\n +numbers)',
+    OPENING: r'\n +\*range = [^\n]*',
     LAYOUT: r'\npub struct Layout \{[^}]*\n\}',
 }
 
@@ -35,7 +38,7 @@ ARROW = [
     ('reference made const', r'&mut ', '&'),
 ]
 EDITS = {
-    RATTLE: SIGNATURE + ARROW,
+    RATTLE: SIGNATURE + ARROW + [('length of another name', r'\b[A-Z]+_SIZE\b', r'\g<0>_AGAIN')],
     HEADER: SIGNATURE + [
         ('argument or field renamed', r'\w+(?=[,;)\[])', r'\g<0>_again'),
         ('fields exchanged', r'\n( +[^\n();]*;[^\n]*)\n( +[^\n();]*;[^\n]*)', r'\n\2\n\1'),
@@ -49,6 +52,12 @@ EDITS = {
         ('pointer made const', r'\*mut', '*const'),
         ('other slice passed', r'\w+(?=\.as_|\.len)', r'\g<0>_again'),
     ],
+    NUMBERS: ALL + [
+        ('constant changed', r'\d+(?=;)', r'1\g<0>'),
+        ('index changed', r'(?<=numbers\[)\w+', r'\g<0>9'),
+        ('another number stored', r'(?<=\] = )[^;]+', 'another'),
+    ],
+    OPENING: ALL + [('numbers exchanged', r'\[([^,]+), ([^\]]+)\]', r'[\2, \1]')],
     LAYOUT: ALL + [('field renamed', r'\w+(?=: )', r'\g<0>_again')],
 }
 

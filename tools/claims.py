@@ -8,7 +8,8 @@ see rules.py, for CLAIMS.md here.
 
 A table whose first head is "call" or "exported function" has a row for each public function: the function,
 as `crate::name` or by its exported name; what it equals, where each name is one that its contract cites; and
-last its must-fail edits, at least two of its own crate. No public function has a `requires`.
+last its must-fail edits, at least two of its own crate, or, where it only hands on to a function that has the
+same contract letter by letter, of that function's crate, as `crate/edit`. No public function has a `requires`.
 
 In another table, a column that has "edit" or "edits" in its head has nothing but edits, and one that has
 "field of `Record`" nothing but fields of that record and names with a dot or slash. Each field of the record
@@ -84,6 +85,13 @@ def called(row):
     return f'{BOUNDARY}::{name}' if row.heads[0] == 'exported function' else name
 
 
+def sharing(function, crate, repository):
+    """The crates whose edits try a contract: the function's own, and that of the function it shares it with."""
+    other = function.hands_on.split('::')[0]
+    handed = repository.crates[other].functions.get(function.hands_on) if other in repository.crates else None
+    return {crate, other} if handed and handed.contract == function.contract else {crate}
+
+
 def row_problems(row, function, crate, repository):
     if len(row.cells) < 3:
         yield 'a row has a function, what it equals, and edits'
@@ -98,8 +106,10 @@ def row_problems(row, function, crate, repository):
     for edit in sorted(edits):
         if not is_edit(edit, crate, repository):
             yield f'`{edit}` is no must-fail edit of {crate}'
-    if len({edit.removeprefix(f'{crate}/') for edit in edits} & repository.crates[crate].edits) < 2:
-        yield f'fewer than two must-fail edits of {crate} stand beside {row.cells[0]}'
+    own = {edit if '/' in edit else f'{crate}/{edit}' for edit in edits}
+    crates = sharing(function, crate, repository)
+    if len(own & {f'{name}/{edit}' for name in crates for edit in repository.crates[name].edits}) < 2:
+        yield f'fewer than two must-fail edits of {" and ".join(sorted(crates))} stand beside {row.cells[0]}'
 
 
 def call_problems(page, repository):

@@ -7,7 +7,8 @@
 What Rattle declares is what is proved. C and Rust must have the same functions, answers and arguments, by
 name and in order. A slice `image` is a pointer, to const where it is only read, and a length `image_size`. An
 array is a pointer to as many numbers; C may write it as an array, as a struct of so many numbers or, for one
-number, as a plain pointer. A struct has the numbers that a function of lib.rt writes, by name and in order.
+number, as a plain pointer. A struct has the numbers that a function of Rattle stores, by name and in order. A
+length may be a constant of boundary_numbers.
 """
 import re
 import sys
@@ -17,19 +18,21 @@ from pathlib import Path
 
 ROOT = Path(__file__).resolve().parent.parent
 RATTLE = 'crates/ondristela/src/lib.rt'
+NUMBERS = 'crates/boundary_numbers/src/lib.rt'
+OPENING = 'crates/boundary_opening/src/lib.rt'
 LAYOUT = 'crates/layout/src/lib.rt'
 HEADER = 'include/ondristela.h'
 RUST = 'rust/src/raw.rs'
-FILES = [RATTLE, LAYOUT, HEADER, RUST]
+FILES = [RATTLE, NUMBERS, OPENING, LAYOUT, HEADER, RUST]
 
-# The function of lib.rt whose one array has the numbers of a struct.
+# The function that stores the numbers of a struct.
 WRITERS = {
-    'ondristela_layout': 'layout_numbers',
-    'ondristela_view': 'view_numbers',
-    'ondristela_range': 'give_keys',
+    'ondristela_layout': (NUMBERS, 'store_layout'),
+    'ondristela_view': (NUMBERS, 'store_view'),
+    'ondristela_range': (OPENING, 'give_keys'),
 }
 
-# The numbers that have another name in a struct than where they are written.
+# The numbers that have another name in a struct than where they are stored.
 RENAMED = {
     'range[0]': 'protected_range',
     'range[1]': 'protected_first',
@@ -83,8 +86,24 @@ def rattle_matches(text):
 
 
 @cache
-def exported(text):
-    """The exported functions by name."""
+def constants(text):
+    """The constants of boundary_numbers: a number, or one above another constant."""
+    found = {}
+    for name, base, above in re.findall(r'^(?:pub )?const (\w+): usize = (\w+)(?: \+ (\d+))?;', text, re.M):
+        if base.isdigit() or base in found:
+            found[name] = int(found.get(base, base)) + int(above or 0)
+    return found
+
+
+def value(name, numbers):
+    """A constant's number; a number, or a constant that is not there, as it is."""
+    return str(constants(numbers).get(name, name))
+
+
+@cache
+def exported(text, numbers):
+    """The exported functions by name, with lengths as numbers."""
+    text = re.sub(r'(?<=; )\w+(?=\])', lambda length: value(length[0], numbers), text)
     return {match[2]: Declaration(place(RATTLE, text, match.start(1)), rust_arguments(match[3]),
                                   (match[4] or '').strip())
             for match in rattle_matches(text)}
@@ -104,26 +123,41 @@ def passed(arguments):
 
 
 @cache
-def raw(text):
+def raw(text, numbers):
     """The exported functions by name, as C and Rust must declare them."""
     return {name: item._replace(arguments=list(passed(item.arguments)))
-            for name, item in exported(text).items()}
+            for name, item in exported(text, numbers).items()}
 
 
-def body(text, function):
-    """Where a function of lib.rt stands, and its body."""
+def body(path, text, function):
+    """Where a function stands, and its body."""
     match = re.search(rf'^fn {function}\(.*?^{{$(.*?)^}}$', text, re.M | re.S)
-    return (place(RATTLE, text, match.start()), match[1]) if match else (RATTLE, '')
+    return (place(path, text, match.start()), match[1]) if match else (path, '')
 
 
-def written(text, function):
-    """The names of the numbers in a function's one array."""
-    where, code = body(text, function)
-    arrays = re.findall(r'(?<![\w&])\[((?:[^\[\]]|\[\d+\])*)\]', code)
-    if len(arrays) != 1:
-        return Struct(where, [])
-    names = [re.split(r'\.|::', item.removesuffix(' as u64'))[-1] for item in items(arrays[0])]
-    return Struct(where, [RENAMED.get(name, name) for name in names])
+def stored_name(expression):
+    name = re.split(r'\.|::', expression.removesuffix(' as u64'))[-1]
+    return RENAMED.get(name, name)
+
+
+def indexed(path, text, function):
+    """What a function stores, by index: in one array, or number by number and by store_layout."""
+    where, code = body(path, text, function)
+    array = re.search(r'^ +\*\w+ = \[(.*)\];$', code, re.M)
+    found = dict(enumerate(items(array[1]))) if array else {}
+    if re.search(r'^ +store_layout\(', code, re.M):
+        found |= indexed(path, text, 'store_layout')[1]
+    for index, expression in re.findall(r'^ +numbers\[(\w+)\] = ([^;]+);$', code, re.M):
+        found[int(value(index, text)) if value(index, text).isdigit() else index] = expression
+    return where, found
+
+
+def stored(texts, struct):
+    """The names of a struct's numbers, in the order in which they are stored; none where an index is left out."""
+    path, function = WRITERS[struct]
+    where, found = indexed(path, texts[path], function)
+    whole = all(index in found for index in range(len(found)))
+    return Struct(where, [stored_name(found[index]) for index in range(len(found))] if whole else [])
 
 
 def layout_fields(text):
@@ -270,19 +304,20 @@ def compared(path, declared, expected):
         yield from differences(function, declared[function], expected[function])
 
 
-def struct_problems(header, rattle, layout):
-    """Where a struct of the header does not have the numbers that lib.rt writes."""
+def struct_problems(header, numbers, opening, layout):
+    """Where a struct of the header does not have the numbers that Rattle stores."""
+    texts = {NUMBERS: numbers, OPENING: opening}
     for name, struct in structs(header).items():
         if name not in WRITERS:
-            yield f'{struct.place}: WRITERS of tools/declarations.py does not say what writes struct {name}'
+            yield f'{struct.place}: WRITERS of tools/declarations.py does not say what stores struct {name}'
             continue
-        source = written(rattle, WRITERS[name])
+        source = stored(texts, name)
         if struct.numbers != source.numbers:
             yield (f'{struct.place}: struct {name} has {", ".join(struct.numbers)}, '
-                   f'but {WRITERS[name]} at {source.place} writes {", ".join(source.numbers) or "no array"}')
-    fields, numbers = layout_fields(layout), written(rattle, WRITERS['ondristela_layout'])
-    if sorted(fields.numbers) != sorted(numbers.numbers):
-        yield f'{numbers.place}: layout_numbers does not write each field of Layout, at {fields.place}, once'
+                   f'but {WRITERS[name][1]} at {source.place} stores {", ".join(source.numbers) or "no list"}')
+    fields, source = layout_fields(layout), stored(texts, 'ondristela_layout')
+    if sorted(fields.numbers) != sorted(source.numbers):
+        yield f'{source.place}: store_layout does not store each field of Layout, at {fields.place}, once'
 
 
 # The checks of a file are kept, since tests/declarations.py asks again and again with one other file changed.
@@ -293,29 +328,29 @@ def rattle_problems(rattle):
 
 
 @cache
-def header_problems(header, rattle, layout):
+def header_problems(header, rattle, numbers, opening, layout):
     declared = {name: number_for_array_of_one(item) for name, item in c_functions(header).items()}
-    expected = {name: number_for_array_of_one(item) for name, item in raw(rattle).items()}
+    expected = {name: number_for_array_of_one(item) for name, item in raw(rattle, numbers).items()}
     return [*strays(HEADER, header, r'ondristela_\w+\s*\(', c_matches(header)),
             *compared(HEADER, declared, expected),
-            *struct_problems(header, rattle, layout)]
+            *struct_problems(header, numbers, opening, layout)]
 
 
 @cache
-def rust_problems(rust, rattle):
+def rust_problems(rust, rattle, numbers):
     rust = opened_aliases(rust)
-    calls = {name: expected_call(item) for name, item in exported(rattle).items()}
+    calls = {name: expected_call(item) for name, item in exported(rattle, numbers).items()}
     return [*strays(RUST, rust, r'\bfn \w+', extern_matches(rust) + safe_matches(rust)),
-            *compared(RUST, extern_functions(rust), raw(rattle)),
-            *compared(RUST, safe_functions(rust), exported(rattle)),
+            *compared(RUST, extern_functions(rust), raw(rattle, numbers)),
+            *compared(RUST, safe_functions(rust), exported(rattle, numbers)),
             *compared(RUST, safe_calls(rust), calls)]
 
 
 def problems(texts):
     """A sentence for each thing that is wrong in the texts of FILES, by path."""
-    rattle, layout, header, rust = (uncommented(texts[path]) for path in FILES)
-    return sorted({*rattle_problems(rattle), *header_problems(header, rattle, layout),
-                   *rust_problems(rust, rattle)})
+    rattle, numbers, opening, layout, header, rust = (uncommented(texts[path]) for path in FILES)
+    return sorted({*rattle_problems(rattle), *header_problems(header, rattle, numbers, opening, layout),
+                   *rust_problems(rust, rattle, numbers)})
 
 
 def read_files():

@@ -24,7 +24,7 @@ GUARANTEES = 'guarantees'
 # Words of Rattle and C that may stand in backticks.
 PLAIN = {'requires', '&mut', 'memmove'}
 
-Function = namedtuple('Function', 'place cited requires')
+Function = namedtuple('Function', 'place cited requires contract hands_on')
 Crate = namedtuple('Crate', 'edits names functions')
 Repository = namedtuple('Repository', 'paths crates declared names records claims')
 Row = namedtuple('Row', 'line heads cells')
@@ -65,6 +65,17 @@ def cited(contract, aliases):
     return {aliases.get(name, name) for name in re.findall(r'[^\s(){}\[\]«»⌜⌝.,;]+', promises)}
 
 
+def in_one_line(contract):
+    """A signature and its clauses as they would stand in one line."""
+    return re.sub(r',? ?\)', ')', ' '.join(contract.split())).replace('( ', '(')
+
+
+def handed_on(rest, contract):
+    """The function of another crate that a body of one call hands on to, or ''."""
+    match = re.match(r'\s*\{\s+(\w+::\w+)\([^;{}]*\)\s+\}\n', rest[len(contract):])
+    return match[1] if match else ''
+
+
 def public_functions(path, prefix, text):
     """The public functions of a source file, by the names that a caller uses. Methods are indented."""
     item = r'^impl(?:<[^>]*>)? (\w+)|^( *)pub (?:(?:const|unsafe|extern "C") )*fn (\w+)'
@@ -75,10 +86,12 @@ def public_functions(path, prefix, text):
             owner = f'{match[1]}::'
             continue
         name = f'{prefix}::{owner if match[2] else ""}{match[3]}'
-        contract = re.split(r'\n\s*\{?\n', text[match.end():], maxsplit=1)[0]
+        rest = text[match.end():]
+        contract = re.split(r'\n\s*\{?\n', rest, maxsplit=1)[0]
         line = text.count('\n', 0, match.start()) + 1
         requires = bool(re.search(r'^\s+requires\b', contract, re.M))
-        found[name] = Function(f'{path}:{line}', cited(contract, aliases), requires)
+        found[name] = Function(f'{path}:{line}', cited(contract, aliases), requires, in_one_line(contract),
+                               handed_on(rest, contract))
     return found
 
 

@@ -12,8 +12,10 @@ use Rattle.sector_map.specs.SectorMap.{tweakOf, tweakNumber}
 use Rattle.view.specs.Views.{viewedRefusal}
 use Rattle.view.specs.declared.Protection.{Protection}
 use Rattle.view.specs.declared.Protection.the-variants.{Unprotected, Protected}
-use Rattle.ondristela.specs.Boundary.{layoutNumbers, layoutFrom, protectionNumbers, protectionOf, viewNumbers, viewFrom}
-use Rattle.ondristela.specs.Boundary.{numberedLeft, openedLeft, keysLeft, blockLeft, viewedLeft, viewLeft}
+use Rattle.boundary_numbers.specs.BoundaryNumbers.{layoutNumbers, layoutFrom, protectionNumbers, protectionFrom, viewNumbers, viewFrom}
+use Rattle.boundary_numbers.specs.BoundaryNumbers.{numberedLeft, openedLeft, viewedLeft, blockLeft}
+use Rattle.boundary_opening.specs.BoundaryOpening.{keysLeft}
+use Rattle.boundary_access.specs.BoundaryAccess.{viewLeft}
 use Rattle.guarantees.specs.Boundary.{TellsNumbers, ReturnsZero, OrdersNumbers, storedProtection, StoresAnswers}
 use Rattle.guarantees.proofs.BoundaryNumbers.{view-of-numbers, set-last}
 use Rattle.guarantees.proofs.BoundaryZero.{located-zero, opened-zero, host-sector-zero, user-sector-zero}
@@ -51,7 +53,7 @@ returns-zero =
 
 pub orders-numbers : (host kind magic version program start size candidate protected first end lock : ℕ)
     → OrdersNumbers host kind magic version program start size candidate protected first end lock
-unfolding layoutFrom viewFrom protectionOf
+unfolding layoutFrom viewFrom protectionFrom
 orders-numbers host kind magic version program start size candidate protected first end lock = record { layout = refl; view = refl }
 
 protection-stored : (protection : Protection) → protectionNumbers protection ≡ storedProtection protection

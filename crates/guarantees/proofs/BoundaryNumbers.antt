@@ -14,7 +14,8 @@ use Rattle.view.specs.declared.Protection.{Protection}
 use Rattle.view.specs.declared.Protection.the-variants.{Unprotected, Protected}
 use Rattle.view.specs.declared.View.{View}
 use Rattle.view.specs.Access.{after}
-use Rattle.ondristela.specs.Boundary.{layoutNumbers, layoutFrom, protectionNumbers, protectionOf, viewNumbers, viewFrom, viewLeft}
+use Rattle.boundary_numbers.specs.BoundaryNumbers.{layoutNumbers, layoutFrom, protectionNumbers, protectionFrom, viewNumbers, viewFrom}
+use Rattle.boundary_access.specs.BoundaryAccess.{viewLeft}
 
 -- a view of its three parts
 abbrev viewWith : Layout → Protection → Bool → View
@@ -22,7 +23,7 @@ viewWith layout protection locked = record { layout = layout; protection = prote
 
 view-with-of-numbers : (layout : Layout) (protection : Protection) (locked : Bool)
     → viewFrom (viewNumbers (viewWith layout protection locked)) ≡ viewWith layout protection locked
-unfolding viewFrom viewNumbers layoutFrom layoutNumbers protectionOf protectionNumbers
+unfolding viewFrom viewNumbers layoutFrom layoutNumbers protectionFrom protectionNumbers
 view-with-of-numbers layout Unprotected true = refl
 view-with-of-numbers layout Unprotected false = refl
 view-with-of-numbers layout (Protected first end) true = refl

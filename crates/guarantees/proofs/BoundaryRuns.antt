@@ -11,7 +11,8 @@ use Rattle.view.specs.declared.Protection.{Protection}
 use Rattle.view.specs.declared.Protection.the-variants.{Unprotected, Protected}
 use Rattle.view.specs.declared.View.{View}
 use Rattle.view.specs.declared.Viewed.the-variants.{Made}
-use Rattle.ondristela.specs.Boundary.{viewFrom, viewLeft, viewedLeft}
+use Rattle.boundary_numbers.specs.BoundaryNumbers.{viewFrom, viewedLeft}
+use Rattle.boundary_access.specs.BoundaryAccess.{viewLeft}
 use Rattle.model.specs.Model.{State, stateWith, Reply}
 use Rattle.model.specs.Sides.{Side, outer, hidden, at, eachWith, OnSide}
 use Rattle.model.proofs.RunLaws.{run-exists, run-carries}

@@ -23,8 +23,9 @@ use Rattle.view.specs.declared.Protection.{Protection}
 use Rattle.view.specs.declared.Protection.the-variants.{Unprotected, Protected}
 use Rattle.view.specs.declared.View.{View}
 use Rattle.view.specs.declared.Viewed.the-variants as making
-use Rattle.ondristela.specs.Boundary.{layoutFrom, viewFrom, WriteCall}
-use Rattle.ondristela.specs.Boundary.{numberedLeft, openedLeft, keysLeft, numberedLeft, blockLeft, viewedLeft}
+use Rattle.boundary_numbers.specs.BoundaryNumbers.{layoutFrom, viewFrom, numberedLeft, openedLeft, viewedLeft, blockLeft}
+use Rattle.boundary_opening.specs.BoundaryOpening.{keysLeft}
+use Rattle.boundary_access.specs.BoundaryAccess.{WriteCall}
 
 -- every refusal is told by its own number, and every acceptance by 0
 pub record TellsNumbers : Type 0 where

@@ -11,7 +11,8 @@ use Rattle.answers.specs.declared.Answer.the-variants.{Accepted, Refused}
 use Rattle.layout.specs.declared.Layout.{Layout}
 use Rattle.view.specs.Views.{plainView, protectedView}
 use Rattle.view.specs.declared.View.{View}
-use Rattle.ondristela.specs.Boundary.{viewFrom, viewedLeft, ReadCall, WriteCall}
+use Rattle.boundary_numbers.specs.BoundaryNumbers.{viewFrom, viewedLeft}
+use Rattle.boundary_access.specs.BoundaryAccess.{ReadCall, WriteCall}
 use Rattle.model.specs.Model.{State, stateWith, Reply}
 use Rattle.model.specs.Runs.{Run}
 use Rattle.model.specs.Sides.{Side, Turn, Both, at, eachWith, OnSide}

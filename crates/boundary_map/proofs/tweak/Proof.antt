@@ -1,0 +1,31 @@
+-- `boundary_map::tweak` meets its contract.
+-- Assumes nothing.
+use Rattle.answers.specs.Answers.{numberedRefusal}
+use Rattle.layout.specs.declared.Layout.{Layout}
+use Rattle.sector_map.specs.SectorMap.{tweakOf}
+use Rattle.sector_map.specs.declared.Tweak.{Tweak}
+use Rattle.boundary_numbers.proofs.GivenLaws.{given-for}
+use Rattle.boundary_numbers.specs.BoundaryNumbers.{blockLeft}
+use borrow.Author.Needs.{needs}
+use Rattle.boundary_map.proofs.tweak.Statement.{statement}
+use Rattle.boundary_map.proofs.tweak.Tie as tie
+
+layout-from-requires : tie.Need-layout-from-requires
+layout-from-requires c κs = search needs
+
+tweak-block-requires : tie.Need-tweak-block-requires
+tweak-block-requires c κs = search needs
+
+give-block-requires : tie.Need-give-block-requires
+give-block-requires c κs = search needs
+
+returns : tie.Need-returns
+returns c =
+    let made = c .before .before in
+    let told = made .before in
+    given-for (λ (t : Tweak). numberedRefusal (t .number)) (λ (t : Tweak). blockLeft (t .number) (t .block))
+    (λ (l : Layout). tweakOf l (told .before .args .user)) (made .tweak-block .ensures) (told .layout-from .ensures) (c .give-block .ensures)
+
+pub tweak-spec : {M : Type 1} → statement M
+tweak-spec =
+    tie.close (tie.spec layout-from-requires tweak-block-requires give-block-requires returns)

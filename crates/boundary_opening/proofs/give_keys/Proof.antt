@@ -1,0 +1,53 @@
+-- `boundary_opening::give_keys` meets its contract, by the cases of the answer.
+-- Assumes nothing.
+use Prim.Native.Nat.{_+_, _*_, _≤_}
+use mathlib.Core.Path.{refl, subst}
+use Rattle.layout.specs.declared.Opened.{Opened}
+use native.Mathlib.Omega.{arith}
+use Rattle.layout.specs.Opened.{openedRefusal}
+use Rattle.opening.specs.Opening.{keysOffset, keysSize}
+use Rattle.boundary_opening.specs.BoundaryOpening.{keysLeft}
+use borrow.Author.Needs.{needs}
+use Rattle.boundary_opening.proofs.give_keys.Statement.{statement}
+use Rattle.boundary_opening.proofs.give_keys.Tie as tie
+
+few : (c : tie.After-struct-known) → c .before .before .answer .given .0 .0 .candidate * 512 + 256 ≤ 32768
+unfolding keysOffset
+few c =
+    let known = c .before .before in
+    subst (λ (answer : Opened). keysOffset answer ≤ 32768) (known .answer .given .1) (known .before .before .pre)
+
+enum-known-answer : tie.Need-enum-known-answer
+enum-known-answer c = search needs
+
+mul-offset : tie.Need-mul-offset
+mul-offset c = record { fits = omega (arith, few c) }
+
+add-offset : tie.Need-add-offset
+add-offset c = record { fits = omega (arith, few c) }
+
+enum-known-answer-2 : tie.Need-enum-known-answer-2
+enum-known-answer-2 c = search needs
+
+cast-result : tie.Need-cast-result
+cast-result c = search needs
+
+returns : tie.Need-returns
+unfolding openedRefusal keysOffset keysSize keysLeft
+returns c = rw (c .before .before .before .answer .given .1) (refl, refl)
+
+returns-2 : tie.Need-returns-2
+unfolding openedRefusal keysOffset keysSize keysLeft
+returns-2 c = rw (c .before .answer2 .given .1) (refl, refl)
+
+pub give-keys-spec : {M : Type 1} → statement M
+give-keys-spec =
+    tie.close
+    (tie.spec
+    enum-known-answer
+    mul-offset
+    add-offset
+    enum-known-answer-2
+    cast-result
+    returns
+    returns-2)
