@@ -4,7 +4,7 @@
 use Prim.Native.Nat.{ℕ}
 use mathlib.Core.Path.{_≡_}
 use mathlib.Core.Bool.{Bool}
-use mathlib.Core.List.{List, _∷_, _++_}
+use mathlib.Core.List.{List, _∷_, _++_, map}
 use Rattle.answers.specs.declared.Answer.{Answer}
 use Rattle.answers.specs.declared.Answer.the-variants.{Accepted}
 use Rattle.layout.specs.declared.Layout.{Layout}
@@ -15,7 +15,7 @@ use Rattle.view.specs.declared.View.{View}
 use Rattle.model.specs.Model.{Rules, State, stateWith, Reply, replies, final, contents}
 use Rattle.model.specs.Runs.{Run}
 use Rattle.model.specs.Sectors.{sectorAt, gather}
-use Rattle.model.specs.Sides.{Side, outer, hidden, Turn, Interleaves, Both, eachWith, OnSide, sided, toldTo, unprotected}
+use Rattle.model.specs.Sides.{Side, outer, hidden, Turn, Interleaves, Both, at, eachWith, OnSide, sided, bySide, unprotected}
 use Rattle.guarantees.specs.ReferenceModel.{inRange, hostsOf, viewRules}
 use Rattle.guarantees.specs.SectorMap.{Sound}
 use Rattle.guarantees.specs.Table.{Operation, reads, writes, Call}
@@ -32,10 +32,6 @@ Keeps writes state first count buffer given after =
 
 abbrev pub Step : State View → Call → Reply Answer → State View → Type 0
 Step state call given after = Keeps (call .operation) state (call .first) (call .count) (call .buffer) given after
-
--- a reply as it is
-abbrev pub whole : Call → Reply Answer → Reply Answer
-whole call given = given
 
 module _ (outerLayout hiddenLayout : Layout) where
   -- the layout of a side
@@ -65,8 +61,8 @@ module _ (outerLayout hiddenLayout : Layout) where
   abbrev pub viewsOf : State (Both Bool) → State (Both View)
   viewsOf model = stateWith (eachWith sideView) model
 
-  -- an outer reply but for what a read gives of the protected sectors
-  abbrev pub shown : Call → Reply Answer → Answer × List (List ℕ)
+  -- an outer call's reply, but for what a read gives of the protected sectors
+  abbrev pub shown : Call × Reply Answer → Answer × List (List ℕ)
   shown = unprotected (sideRules outer) (inRange (area hiddenLayout))
 
   -- from a model's start: an image of any length and content, and each lock open or closed
@@ -77,35 +73,36 @@ module _ (outerLayout hiddenLayout : Layout) where
       pub sameImage : last .image ≡ final rules turns model .image
       pub sameViews : last .held ≡ eachWith sideView (final rules turns model .held)
 
+    -- a run from there: each call finds its view and the image as the calls before it left them
+    abbrev pub Runs : List (Turn Call) → List (Reply Answer) → State (Both View) → Type 0
+    Runs turns answers last = Run (OnSide Step) (viewsOf model) turns answers last
+
     -- two runs agree, but for what outer reads give of protected sectors
     pub record Independent (turns others : List (Turn Call)) (answers otherAnswers : List (Reply Answer)) (last otherLast : State (Both View)) : Type 0 where
       pub sameEnd : last ≡ otherLast
-      pub hiddenReplies : toldTo whole hidden turns answers ≡ toldTo whole hidden others otherAnswers
-      pub outerReplies : toldTo shown outer turns answers ≡ toldTo shown outer others otherAnswers
+      pub hiddenReplies : map (λ r. r .1) (at hidden (bySide turns answers)) ≡ map (λ r. r .1) (at hidden (bySide others otherAnswers))
+      pub outerReplies : map shown (at outer (bySide turns answers)) ≡ map shown (at outer (bySide others otherAnswers))
 
     -- the claim, for any two lists
     pub record Interleaved (xs ys : List Call) : Type 0 where
       -- every interleaving has a run
-      pub runs : (turns : List (Turn Call)) → Interleaves xs ys turns
-          → (answers : List (Reply Answer)) × (last : State (Both View)) × Run (OnSide Step) (viewsOf model) turns answers last
+      pub runs : (turns : List (Turn Call)) → Interleaves xs ys turns → (answers : List (Reply Answer)) × (last : State (Both View)) × Runs turns answers last
       -- every run is the reference model's
       pub agrees : (turns : List (Turn Call)) (answers : List (Reply Answer)) (last : State (Both View)) → Interleaves xs ys turns
-          → Run (OnSide Step) (viewsOf model) turns answers last → Agrees turns answers last
+          → Runs turns answers last → Agrees turns answers last
       -- each sector ends with the last accepted write that covers it, or as it began
       pub lastWrite : (turns : List (Turn Call)) (answers : List (Reply Answer)) (last : State (Both View)) → Interleaves xs ys turns
-          → Run (OnSide Step) (viewsOf model) turns answers last
-          → (host : ℕ) → sectorAt host (last .image) ≡ contents rules host turns answers (sectorAt host (model .image))
+          → Runs turns answers last → (host : ℕ) → sectorAt host (last .image) ≡ contents rules host turns answers (sectorAt host (model .image))
       -- an accepted read gives each sector as the accepted writes before it left it, or as it began
       pub readsLeft : (before : List (Turn Call)) (turn : Turn Call) (after : List (Turn Call)) (answers : List (Reply Answer)) (given : Reply Answer)
           (middle next : State (Both View)) → Interleaves xs ys (before ++ (turn ∷ after))
-          → Run (OnSide Step) (viewsOf model) before answers middle → OnSide Step middle turn given next
+          → Runs before answers middle → OnSide Step middle turn given next
           → turn .call .operation ≡ reads → given .answer ≡ Accepted
           → given .buffer
           ≡ gather (λ host. contents rules host before answers (sectorAt host (model .image))) (hostsOf (sideLayout (turn .side)) (turn .call))
       -- any two interleavings end alike, and give each list the same, but for what outer reads give of protected sectors
       pub independent : (turns others : List (Turn Call)) (answers otherAnswers : List (Reply Answer)) (last otherLast : State (Both View))
-          → Interleaves xs ys turns → Interleaves xs ys others
-          → Run (OnSide Step) (viewsOf model) turns answers last → Run (OnSide Step) (viewsOf model) others otherAnswers otherLast
+          → Interleaves xs ys turns → Interleaves xs ys others → Runs turns answers last → Runs others otherAnswers otherLast
           → Independent turns others answers otherAnswers last otherLast
 
 -- demand 3: for any two sound layouts that nest

@@ -1,13 +1,13 @@
 -- Any two interleavings of the same two lists end alike, and tell each side the same, but for what outer reads give of protected sectors.
 -- Assumes nothing.
 use Prim.Native.Nat.{ℕ}
-use mathlib.Core.Path.{_≡_, sym, ap, _∙_}
+use mathlib.Core.Path.{_≡_, sym, ap, _∙_, subst₂}
 use mathlib.Core.Bool.{Bool, not}
-use mathlib.Core.List.{List}
+use mathlib.Core.List.{List, map}
 use Rattle.model.specs.Sectors.{sectorAt}
 use Rattle.model.specs.Model.{Rules, State, stateWith, Reply, replies, final}
 use Rattle.model.specs.Runs.{Run}
-use Rattle.model.specs.Sides.{Side, outer, hidden, Turn, Interleaves, Both, at, eachWith, OnSide, sided, toldTo, unprotected}
+use Rattle.model.specs.Sides.{Side, outer, hidden, Turn, Interleaves, Both, at, eachWith, OnSide, sided, bySide, unprotected}
 use Rattle.model.proofs.Alone.{picks-outer, picks-hidden, picked-alike}
 use Rattle.model.proofs.Cases.{test-cases}
 use Rattle.model.proofs.Lawful.{Lawful}
@@ -29,14 +29,11 @@ module _ {Call Lock Answer : Type 0} (rules : Side → Rules Call Lock Answer) (
       (λ e. o .sameSector host (ap not e))) in
       λ i. record { image = images i; held = record { outerOne = o .sameLock i; hiddenOne = h .sameLock i } }
 
-  -- a reply as it is
-  abbrev pub asGiven : Call → Reply Answer → Reply Answer
-  asGiven call given = given
-
   -- two lists of calls, each with its replies, tell the sides the same
   pub record Alike (turns others : List (Turn Call)) (answers otherAnswers : List (Reply Answer)) : Type 0 where
-    pub toHidden : toldTo asGiven hidden turns answers ≡ toldTo asGiven hidden others otherAnswers
-    pub toOuter : toldTo (unprotected (rules outer) protects) outer turns answers ≡ toldTo (unprotected (rules outer) protects) outer others otherAnswers
+    pub toHidden : map (λ r. r .1) (at hidden (bySide turns answers)) ≡ map (λ r. r .1) (at hidden (bySide others otherAnswers))
+    pub toOuter : map (unprotected (rules outer) protects) (at outer (bySide turns answers))
+        ≡ map (unprotected (rules outer) protects) (at outer (bySide others otherAnswers))
 
   module _ (lawful : (side : Side) → Lawful (rules side)) (apart : Apart rules protects) where
     model-independent : {xs ys : List Call} {turns others : List (Turn Call)} (model : State (Both Lock))
@@ -45,7 +42,7 @@ module _ {Call Lock Answer : Type 0} (rules : Side → Rules Call Lock Answer) (
         × Alike turns others (replies (sided rules) turns model) (replies (sided rules) others model)
     model-independent {turns = turns} {others = others} model merged otherwise =
         let h =
-        picked-alike rules protects lawful apart asGiven hidden (reply-hidden-same rules protects lawful apart) (picks-hidden merged)
+        picked-alike rules protects lawful apart (λ r. r .1) hidden (reply-hidden-same rules protects lawful apart) (picks-hidden merged)
         (picks-hidden otherwise) model in
         let o =
         picked-alike rules protects lawful apart (unprotected (rules outer) protects) outer (unprotected-outer-same rules protects lawful apart)
@@ -66,10 +63,4 @@ module _ {Call Lock Answer : Type 0} (rules : Side → Rules Call Lock Answer) (
           let m = run-agrees (sided rules) (eachWith view) (OnSide Step) together model run in
           let n = run-agrees (sided rules) (eachWith view) (OnSide Step) together model other in
           let same = model-independent model merged otherwise in
-          let outwards = unprotected (rules outer) protects in (
-            m .1 ∙ ap (stateWith (eachWith view)) (same .0) ∙ sym (n .1),
-            record {
-              toHidden = ap (toldTo asGiven hidden turns) (m .0) ∙ same .1 .toHidden ∙ sym (ap (toldTo asGiven hidden others) (n .0));
-              toOuter = ap (toldTo outwards outer turns) (m .0) ∙ same .1 .toOuter ∙ sym (ap (toldTo outwards outer others) (n .0));
-            },
-          )
+          (m .1 ∙ ap (stateWith (eachWith view)) (same .0) ∙ sym (n .1), subst₂ (Alike turns others) (sym (m .0)) (sym (n .0)) (same .1))

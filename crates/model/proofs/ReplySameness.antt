@@ -65,8 +65,8 @@ module _ {Call Lock Answer : Type 0} (rules : Side → Rules Call Lock Answer) (
       every-same (host ∷ hosts) each = (ap (rules hidden .shown call host) (s .sameSector host (each .0)), every-same hosts (each .1))
 
   pub unprotected-outer-same : Same rules protects outer model other
-      → unprotected (rules outer) protects call (reply (sided rules) (turn outer call) model)
-      ≡ unprotected (rules outer) protects call (reply (sided rules) (turn outer call) other)
+      → unprotected (rules outer) protects (call, reply (sided rules) (turn outer call) model)
+      ≡ unprotected (rules outer) protects (call, reply (sided rules) (turn outer call) other)
   unfolding unprotected reply bufferAfter judged sided owns
   unprotected-outer-same s =
       let own = rules outer in

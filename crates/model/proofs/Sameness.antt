@@ -8,12 +8,12 @@ use lib.ListN.{length}
 use borrow.Author.Tests.{not-true}
 use Rattle.model.specs.Sectors.{sectorAt, pieceFor}
 use Rattle.model.specs.Model.{Rules, State, judged, sectorAfter, next}
-use Rattle.model.specs.Sides.{Side, outer, hidden, isSide, Turn, turn, Both, at, sided}
+use Rattle.model.specs.Sides.{Side, outer, hidden, Turn, turn, Both, at, sided}
 use Rattle.model.proofs.CallLaws.{length-next, sector-next}
 use Rattle.model.proofs.Cases.{test-cases, both-true}
 use Rattle.model.proofs.Lawful.{Every, Accepts, Lawful, sided-lawful}
 use Rattle.model.proofs.LayLaws.{piece-absent}
-use Rattle.model.proofs.SideLaws.{at-put-same, at-put-other}
+use Rattle.model.proofs.SideLaws.{isSide, at-put-same, at-put-other}
 
 -- a sector is a side's own: the hidden side's are the protected ones, the outer side's the others
 unfoldable pub owns : (ℕ → Bool) → Side → ℕ → Bool

@@ -1,15 +1,17 @@
 -- The two sides: what is put on one is there, and leaves the other; and where each side's steps are its rules', so are both sides' together.
 -- Assumes nothing.
 use mathlib.Core.Path.{_≡_, refl, sym, ap, _∙_, subst}
-use mathlib.Core.Bool.{true, false, true≢false}
+use mathlib.Core.Bool.{Bool, true, false, true≢false}
 use Rattle.model.specs.Model.{Rules, State, stateWith, Reply, judged, bufferAfter, imageAfter, reply, next}
-use Rattle.model.specs.Sides.{Side, outer, hidden, isSide, Turn, Both, at, put, eachWith, OnSide, sided}
+use Rattle.model.specs.Sides.{Side, outer, hidden, Turn, Both, at, put, eachWith, OnSide, sided}
 use Rattle.model.proofs.RunLaws.{Models}
 
-pub is-side-self : (side : Side) → isSide side side ≡ true
-unfolding isSide
-is-side-self outer = refl
-is-side-self hidden = refl
+-- two sides are one
+unfoldable pub isSide : Side → Side → Bool
+isSide outer outer = true
+isSide outer hidden = false
+isSide hidden outer = false
+isSide hidden hidden = true
 
 pub at-put-same : {A : Type 0} (side : Side) (one : A) (both : Both A) → at side (put side one both) ≡ one
 unfolding at put

@@ -2,7 +2,7 @@
 -- Assumes nothing.
 use Prim.Native.Nat.{ℕ}
 use mathlib.Core.Path.{_≡_}
-use mathlib.Core.Bool.{Bool, true, false, not, _&&_, cond}
+use mathlib.Core.Bool.{Bool, not, _&&_, cond}
 use mathlib.Core.List.{List, [], _∷_}
 use lib.ListN.{take, drop}
 use Rattle.model.specs.Model.{Rules, State, Reply}
@@ -10,13 +10,6 @@ use Rattle.model.specs.Model.{Rules, State, Reply}
 -- the view that a call is on
 pub data Side : Type 0 where
   outer hidden : Side
-
--- two sides are one
-unfoldable pub isSide : Side → Side → Bool
-isSide outer outer = true
-isSide outer hidden = false
-isSide hidden outer = false
-isSide hidden hidden = true
 
 -- a call on its view
 pub record Turn (Call : Type 0) : Type 0 where
@@ -71,12 +64,12 @@ sided rules =
       shown = λ turn. rules (turn .side) .shown (turn .call);
     }
 
--- of a list of calls and their replies, what one side is told of its own
-unfoldable pub toldTo : {Call Given A : Type 0} → (Call → Given → A) → Side → List (Turn Call) → List Given → List A
-toldTo tell side [] answers = []
-toldTo tell side (turn ∷ turns) [] = []
-toldTo tell side (turn ∷ turns) (given ∷ answers) =
-    cond (isSide side (turn .side)) (tell (turn .call) given ∷ toldTo tell side turns answers) (toldTo tell side turns answers)
+-- a list of calls and their replies, each side's by themselves
+unfoldable pub bySide : {Call Given : Type 0} → List (Turn Call) → List Given → Both (List (Call × Given))
+bySide [] answers = record { outerOne = []; hiddenOne = [] }
+bySide (turn ∷ turns) [] = record { outerOne = []; hiddenOne = [] }
+bySide (turn ∷ turns) (given ∷ answers) =
+    let rest = bySide turns answers in put (turn .side) ((turn .call, given) ∷ at (turn .side) rest) rest
 
 -- the pieces of a buffer, but for those of protected sectors, which are left out
 unfoldable pub unprotectedPieces : (ℕ → Bool) → List ℕ → List ℕ → List (List ℕ)
@@ -85,8 +78,8 @@ unprotectedPieces protects (host ∷ hosts) buffer =
     cond (protects host) [] (take 512 buffer) ∷ unprotectedPieces protects hosts (drop 512 buffer)
 
 -- a reply but for protected sectors: its answer, and its buffer, of an accepted read in pieces
-unfoldable pub unprotected : {Call Lock Answer : Type 0} → Rules Call Lock Answer → (ℕ → Bool) → Call → Reply Answer → Answer × List (List ℕ)
-unprotected rules protects call given = (
+unfoldable pub unprotected : {Call Lock Answer : Type 0} → Rules Call Lock Answer → (ℕ → Bool) → Call × Reply Answer → Answer × List (List ℕ)
+unprotected rules protects (call, given) = (
   given .answer,
   cond (not (rules .writes call) && rules .accepts call (given .answer)) (unprotectedPieces protects (rules .hosts call) (given .buffer)) (given .buffer ∷ []),
 )
