@@ -17,11 +17,11 @@ use Rattle.view.specs.Views.{areaEnd, protectionRule, soundView, plainOf, prote
 use Rattle.map_output.specs.Decimal.{digits, decimal}
 use Rattle.map_output.specs.MapOutput.{line, numberLine, eitherLine, magicLine, kindLine, headerLines, areaLines, sectorLines, lastSector, layoutLines}
 use Rattle.guarantees.specs.MapProgram.{letters}
-use Rattle.worked_cases.specs.WorkedCases.{fieldBytes, headerWith, toldOf, opens, volumeM, volumeN, mappedTold, tweakTold}
-use Rattle.worked_cases.specs.WorkedCases.{onView, writing, reading, leaving, Case, cases, AsWorked}
+use Rattle.worked_cases.specs.WorkedCases.{fieldBytes, headerWith, toldOf, opens, volume, volumeM, volumeN, mappedTold, tweakTold}
+use Rattle.worked_cases.specs.WorkedCases.{onView, writing, reading, leaving, cases, AsWorked}
 
-table : map (λ (c : Case). c .answer) cases ≡ map (λ (c : Case). c .expected) cases
-unfolding cases opens toldOf headerWith fieldBytes bigEndianBytes volumeM volumeN mappedTold tweakTold
+table : map (λ c. c .0) cases ≡ map (λ c. c .1) cases
+unfolding cases opens toldOf headerWith fieldBytes bigEndianBytes volume volumeM volumeN mappedTold tweakTold
     opened lengthsRule codesRule codeRule hostSizeRule searched further judgements candidateAt locationOf locations
     judge isHeader magicOf fieldsOf checksumsMatch sameBytes allZero acceptedLayout
     versionRule reservedRule flagsRule sectorSizeRule hiddenSizeRule areaRule dataAreaRule sectorsRule placeRule
@@ -33,7 +33,7 @@ table = refl
 
 output : layoutLines volumeM
     ≡ letters "mark TRUE\nversion 5\nneeds 7\nkind standard\nhost 1048576\nstart 131072\nsize 786432\nsectors 1536\nfirst 256\nlast 1791\n"
-unfolding layoutLines headerLines areaLines sectorLines magicLine kindLine eitherLine numberLine line decimal digits sectors firstSector lastSector volumeM
+unfolding layoutLines headerLines areaLines sectorLines magicLine kindLine eitherLine numberLine line decimal digits sectors firstSector lastSector volume volumeM
 output = refl
 
 pub as-worked : AsWorked

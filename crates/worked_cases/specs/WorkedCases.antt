@@ -46,33 +46,26 @@ toldOf (Refused number) = number ∷ []
 unfoldable pub opens : ℕ → List ℕ → List ℕ
 opens hostSize header = toldOf (opened header (0 ∷ []) hostSize)
 
--- M, a standard volume
-unfoldable pub volumeM : Layout
-volumeM =
+-- a volume in a host of 1,048,576 bytes, as a version 5 TRUE header tells it: its kind, O, V and candidate
+unfoldable pub volume : ℕ → ℕ → ℕ → ℕ → Layout
+volume kind start size candidate =
     record {
       «host_size» = 1048576;
-      kind = 0;
+      kind = kind;
       magic = 1;
       version = 5;
       «min_program_version» = 7;
-      «data_start» = 131072;
-      «data_size» = 786432;
-      candidate = 0;
+      «data_start» = start;
+      «data_size» = size;
+      candidate = candidate;
     }
 
--- N, hidden in M
+-- M, a standard volume, and N, hidden in it
+unfoldable pub volumeM : Layout
+volumeM = volume 0 131072 786432 0
+
 unfoldable pub volumeN : Layout
-volumeN =
-    record {
-      «host_size» = 1048576;
-      kind = 1;
-      magic = 1;
-      version = 5;
-      «min_program_version» = 7;
-      «data_start» = 655360;
-      «data_size» = 262144;
-      candidate = 1;
-    }
+volumeN = volume 1 655360 262144 1
 
 -- what a case tells of the map: the refusal number, or 0 and the sector or tweak number
 unfoldable pub mappedTold : Numbered → List ℕ
@@ -99,49 +92,44 @@ reading first count view = readNumber view 1048576 first count (count * 512)
 unfoldable pub leaving : ℕ → ℕ → View → View
 leaving first count view = after view (writing first count view)
 
--- a case: what the definitions answer, and what the rules say
-pub record Case : Type 0 where
-  pub answer : List ℕ
-  pub expected : List ℕ
-
--- the table
-unfoldable pub cases : List Case
+-- the table: what the definitions answer, and what the rules say
+unfoldable pub cases : List (List ℕ × List ℕ)
 cases =
     let keyChecksum = crc32 (replicate 256 0) in
     let oneSector = headerWith keyChecksum 512 512 in
     -- S 262,656, V 512: accepted, one sector
-    record { answer = opens 262656 oneSector; expected = 0 ∷ 1 ∷ [] }
+    (opens 262656 oneSector, 0 ∷ 1 ∷ [])
     -- S 262,144: 3
-    ∷ record { answer = opens 262144 oneSector; expected = 3 ∷ [] }
+    ∷ (opens 262144 oneSector, 3 ∷ [])
     -- V 786,944 in M's place: 10
-    ∷ record { answer = opens 1048576 (headerWith keyChecksum 786944 786944); expected = 10 ∷ [] }
+    ∷ (opens 1048576 (headerWith keyChecksum 786944 786944), 10 ∷ [])
     -- V and E 2^64-512: 10
-    ∷ record { answer = opens 1048576 (headerWith keyChecksum (2 ^ 64 - 512) (2 ^ 64 - 512)); expected = 10 ∷ [] }
+    ∷ (opens 1048576 (headerWith keyChecksum (2 ^ 64 - 512) (2 ^ 64 - 512)), 10 ∷ [])
     -- M sector 0 has tweak 256, block 00 01 and fourteen zeros
-    ∷ record { answer = tweakTold (tweakOf volumeM 0); expected = 0 ∷ 256 ∷ 0x00 ∷ 0x01 ∷ replicate 14 0 }
+    ∷ (tweakTold (tweakOf volumeM 0), 0 ∷ 256 ∷ 0x00 ∷ 0x01 ∷ replicate 14 0)
     -- M sector 1,535 has tweak 1,791, block FF 06 and fourteen zeros
-    ∷ record { answer = tweakTold (tweakOf volumeM 1535); expected = 0 ∷ 1791 ∷ 0xFF ∷ 0x06 ∷ replicate 14 0 }
+    ∷ (tweakTold (tweakOf volumeM 1535), 0 ∷ 1791 ∷ 0xFF ∷ 0x06 ∷ replicate 14 0)
     -- M sector 1,536: 16
-    ∷ record { answer = mappedTold (hostSector volumeM 1536); expected = 16 ∷ [] }
+    ∷ (mappedTold (hostSector volumeM 1536), 16 ∷ [])
     -- N sector 0 has tweak 1,280, block 00 05 and fourteen zeros
-    ∷ record { answer = tweakTold (tweakOf volumeN 0); expected = 0 ∷ 1280 ∷ 0x00 ∷ 0x05 ∷ replicate 14 0 }
+    ∷ (tweakTold (tweakOf volumeN 0), 0 ∷ 1280 ∷ 0x00 ∷ 0x05 ∷ replicate 14 0)
     -- back: host sector 255: 16; 256 gives 0 in M
-    ∷ record { answer = mappedTold (userSector volumeM 255); expected = 16 ∷ [] }
-    ∷ record { answer = mappedTold (userSector volumeM 256); expected = 0 ∷ 0 ∷ [] }
+    ∷ (mappedTold (userSector volumeM 255), 16 ∷ [])
+    ∷ (mappedTold (userSector volumeM 256), 0 ∷ 0 ∷ [])
     -- M protecting N: write 1,023 count 1 accepted; count 2: 18
-    ∷ record { answer = onView (protectedView volumeM volumeN) (writing 1023 1); expected = 0 ∷ [] }
-    ∷ record { answer = onView (protectedView volumeM volumeN) (writing 1023 2); expected = 18 ∷ [] }
+    ∷ (onView (protectedView volumeM volumeN) (writing 1023 1), 0 ∷ [])
+    ∷ (onView (protectedView volumeM volumeN) (writing 1023 2), 18 ∷ [])
     -- after that 18, write 0 count 1: 17; read 0 count 1 accepted
-    ∷ record { answer = onView (protectedView volumeM volumeN) (λ view. writing 0 1 (leaving 1023 2 view)); expected = 17 ∷ [] }
-    ∷ record { answer = onView (protectedView volumeM volumeN) (λ view. reading 0 1 (leaving 1023 2 view)); expected = 0 ∷ [] }
+    ∷ (onView (protectedView volumeM volumeN) (λ view. writing 0 1 (leaving 1023 2 view)), 17 ∷ [])
+    ∷ (onView (protectedView volumeM volumeN) (λ view. reading 0 1 (leaving 1023 2 view)), 0 ∷ [])
     -- plain view of M: write 1,536 count 0 accepted, count 1: 16; 1,537 count 0: 16
-    ∷ record { answer = onView (plainView volumeM) (writing 1536 0); expected = 0 ∷ [] }
-    ∷ record { answer = onView (plainView volumeM) (writing 1536 1); expected = 16 ∷ [] }
-    ∷ record { answer = onView (plainView volumeM) (writing 1537 0); expected = 16 ∷ [] }
+    ∷ (onView (plainView volumeM) (writing 1536 0), 0 ∷ [])
+    ∷ (onView (plainView volumeM) (writing 1536 1), 16 ∷ [])
+    ∷ (onView (plainView volumeM) (writing 1537 0), 16 ∷ [])
     ∷ []
 
 -- the claim: every case, and the map program's whole output for M, is as the rules say
 pub record AsWorked : Type 0 where
-  pub table : map (λ (c : Case). c .answer) cases ≡ map (λ (c : Case). c .expected) cases
+  pub table : map (λ c. c .0) cases ≡ map (λ c. c .1) cases
   pub output : layoutLines volumeM
       ≡ letters "mark TRUE\nversion 5\nneeds 7\nkind standard\nhost 1048576\nstart 131072\nsize 786432\nsectors 1536\nfirst 256\nlast 1791\n"
