@@ -1,0 +1,65 @@
+-- `copy::copy_by_local` meets its contract: the local buffer starts with the bytes, and they are copied on.
+-- Assumes nothing.
+use mathlib.Core.Path.{_≡_, sym, ap, _∙_}
+use mathlib.Core.List.{List, _++_}
+use Prim.Native.Nat.{ℕ}
+use native.Mathlib.Omega.{arith}
+use denote.Ref.{now}
+use lib.ListN.{length, replicate, take, drop}
+use lib.Seq.{take-length}
+use borrow.Author.Needs.{needs}
+use Rattle.copy.proofs.CopyLaws.{copied-first}
+use Rattle.copy.proofs.copy_by_local.Statement.{statement}
+use Rattle.copy.proofs.copy_by_local.Tie as tie
+
+-- the local buffer's first bytes are those that were copied to it
+first : (c : tie.After-local3) →
+    let copied = c .before .before in
+    let start = copied .before .before .before in
+    let from = now (start .before .args .from) in
+    take (length from) (copied .copy .last .1 .0) ≡ from
+first c = copied-first _ (replicate 65536 0) _ (c .before .before .copy .ensures .1)
+
+slice-aggregate-copy : tie.Need-slice-aggregate-copy
+slice-aggregate-copy c = search needs
+
+copy-requires : tie.Need-copy-requires
+copy-requires c κs = search needs
+
+array-share-prefix-local : tie.Need-array-share-prefix-local
+array-share-prefix-local c = search needs
+
+slice-aggregate-copy-2 : tie.Need-slice-aggregate-copy-2
+slice-aggregate-copy-2 c = sym (ap length (first c))
+
+copy-requires-2 : tie.Need-copy-requires-2
+copy-requires-2 c κs =
+    let copied = c .before .before .before in
+    let start = copied .before .before .before in
+    omega (arith, ap length (first (c .before)), start .before .pre .1)
+
+same-length : tie.Need-same-length
+same-length c = search needs
+
+returns : tie.Need-returns
+returns c =
+    let on = c .before .before in
+    let shared = on .before .before in
+    let start = shared .before .before .before in
+    let a = start .before .before .before .args in
+    let to : List ℕ = now (a .to) in
+    on .copy2 .ensures .1
+    ∙ ap (λ (bytes : List ℕ). take (length bytes) bytes ++ drop (length bytes) to) (first shared)
+    ∙ ap (λ (bytes : List ℕ). bytes ++ drop (length (now (a .from))) to) (take-length (now (a .from)))
+
+pub copy-by-local-spec : {M : Type 1} → statement M
+copy-by-local-spec =
+    tie.close
+    (tie.spec
+    slice-aggregate-copy
+    copy-requires
+    array-share-prefix-local
+    slice-aggregate-copy-2
+    copy-requires-2
+    same-length
+    returns)
