@@ -1,0 +1,109 @@
+-- What an acceptance says of a call, and how the later checks of a write join those of every call.
+-- Assumes nothing.
+use Prim.Native.Nat.{ℕ, _+_, _-_, _*_, _≤_}
+use native.Mathlib.Omega.{arith}
+use mathlib.Core.Path.{_≡_, refl, sym, ap}
+use mathlib.Core.Bool.{Bool, true, false, true≢false}
+use lib.Dec.{leb, eqb}
+use borrow.Author.Tests.{leb-true, eqb-true, le-leb, eq-eqb}
+use Rattle.answers.specs.Answers.{line}
+use Rattle.answers.specs.declared.Answer.{Answer}
+use Rattle.answers.specs.declared.Answer.the-variants.{Accepted, Refused}
+use Rattle.copy.specs.Copy.{maxSize}
+use Rattle.layout.specs.Rules.{sectorBytes}
+use Rattle.layout.specs.Soundness.{sound}
+use Rattle.layout.specs.declared.Layout.{Layout}
+use Rattle.layout.proofs.RuleLaws.{and-true-left, sound-ends}
+use Rattle.layout.proofs.TestLaws.{leb-iff}
+use Rattle.protection.specs.Protection.{protectionRule, soundProtection}
+use Rattle.protection.specs.declared.Protection.{Protection}
+use Rattle.sector_map.specs.SectorMap.{sectors}
+use Rattle.access.specs.Judging.{maxCount, checked, lockAnswer, readAnswer, writeAnswer, isAccepted}
+use Rattle.access.specs.Moving.{extentStart}
+
+-- an extent's end by what is left of the volume
+pub inside-by-rest : (first count total : ℕ) → count ≤ total → leb first (total - count) ≡ leb (first + count) total
+inside-by-rest first count total h = leb-iff first (total - count) (first + count) total (λ k. omega arith) (λ k. omega arith)
+
+pub refused-accepted : {A : Type 0} (number : ℕ) → Refused number ≡ Accepted → A
+unfolding isAccepted
+refused-accepted number e = absurd (true≢false (sym (ap isAccepted e)))
+
+-- a check that an acceptance has passed
+line-kept : (number : ℕ) (kept : Bool) (later : Answer) → line (Refused number) kept later ≡ Accepted → (kept ≡ true) × (later ≡ Accepted)
+line-kept number true later e = (refl, e)
+line-kept number false later e = refused-accepted number e
+
+-- a refusal by five checks does not depend on the later ones
+refused-alike : (a b c d e : Bool) (number : ℕ) (later : Answer)
+    → line (Refused 11) a (line (Refused 13) b (line (Refused 14) c (line (Refused 15) d (line (Refused 16) e Accepted)))) ≡ Refused number
+    → line (Refused 11) a (line (Refused 13) b (line (Refused 14) c (line (Refused 15) d (line (Refused 16) e later)))) ≡ Refused number
+refused-alike false b c d e number later h = h
+refused-alike true false c d e number later h = h
+refused-alike true true false d e number later h = h
+refused-alike true true true false e number later h = h
+refused-alike true true true true false number later h = h
+refused-alike true true true true true number later h = refused-accepted number (sym h)
+
+module _ (layout : Layout) (protection : Protection) (imageSize first count bufferSize : ℕ) where
+  -- every check is passed
+  pub record Passed : Type 0 where
+    pub soundness : soundProtection layout protection ≡ true
+    pub imageWhole : imageSize ≡ layout .«host_size»
+    pub few : count ≤ maxCount
+    pub bufferWhole : bufferSize ≡ count * sectorBytes
+    pub inside : first + count ≤ sectors layout
+
+  pub checked-accepted : (later : Answer) → checked layout protection imageSize first count bufferSize later ≡ Accepted → Passed × (later ≡ Accepted)
+  unfolding checked
+  checked-accepted later e =
+      let p11 = line-kept 11 (soundProtection layout protection) _ e in
+      let p13 = line-kept 13 (eqb imageSize (layout .«host_size»)) _ (p11 .1) in
+      let p14 = line-kept 14 (leb count maxCount) _ (p13 .1) in
+      let p15 = line-kept 15 (eqb bufferSize (count * sectorBytes)) _ (p14 .1) in
+      let p16 = line-kept 16 (leb (first + count) (sectors layout)) later (p15 .1) in (
+        record {
+          soundness = p11 .0;
+          imageWhole = eqb-true imageSize (layout .«host_size») (p13 .0);
+          few = leb-true count maxCount (p14 .0);
+          bufferWhole = eqb-true bufferSize (count * sectorBytes) (p15 .0);
+          inside = leb-true (first + count) (sectors layout) (p16 .0);
+        },
+        p16 .1,
+      )
+
+  pub read-passed : readAnswer layout protection imageSize first count bufferSize ≡ Accepted → Passed
+  unfolding readAnswer
+  read-passed e = checked-accepted Accepted e .0
+
+  pub write-passed : (locked : Bool) → writeAnswer layout protection locked imageSize first count bufferSize ≡ Accepted → Passed
+  unfolding writeAnswer
+  write-passed locked e = checked-accepted (lockAnswer layout protection locked first count) e .0
+
+  pub passed-layout : Passed → sound layout ≡ true
+  unfolding soundProtection
+  passed-layout p = and-true-left (sound layout) (protectionRule layout protection) (p .soundness)
+
+  -- what the moving of bytes asks for: the extent lies in the image
+  pub passed-moves : Passed
+      → (sound layout ≡ true) × ((first ≤ sectors layout) × ((bufferSize ≤ maxSize) × (extentStart layout first + bufferSize ≤ imageSize)))
+  unfolding extentStart sectors
+  passed-moves p =
+      let kept = passed-layout p in
+      let fits : extentStart layout first + bufferSize ≤ imageSize =
+      omega (arith, sound-ends layout kept, p .imageWhole, p .bufferWhole, p .inside) in
+      (kept, (omega (arith, p .inside), (omega (arith, p .few, p .bufferWhole), fits)))
+
+  -- past the checks of every call, the later ones decide
+  pub checked-passed : Passed → (later : Answer) → checked layout protection imageSize first count bufferSize later ≡ later
+  unfolding checked
+  checked-passed p later =
+      simp (p .soundness, eq-eqb _ _ (p .imageWhole), le-leb _ _ (p .few), eq-eqb _ _ (p .bufferWhole), le-leb _ _ (p .inside))
+
+  -- and a refusal among them is that of a read
+  pub checked-refused : (number : ℕ) (later : Answer) → readAnswer layout protection imageSize first count bufferSize ≡ Refused number
+      → checked layout protection imageSize first count bufferSize later ≡ Refused number
+  unfolding readAnswer checked
+  checked-refused number later e =
+      refused-alike (soundProtection layout protection) (eqb imageSize (layout .«host_size»)) (leb count maxCount)
+      (eqb bufferSize (count * sectorBytes)) (leb (first + count) (sectors layout)) number later e

@@ -1,0 +1,77 @@
+-- What a copy between a buffer and a part of the image leaves, and the buffer and the image after a call by its answer.
+-- Assumes nothing.
+use Prim.Native.Nat.{ℕ, _+_, _-_, _*_, _≤_}
+use native.Mathlib.Omega.{arith}
+use native.Mathlib.Nat.{add-sub-cancel-left}
+use mathlib.Core.Path.{_≡_, refl, sym, ap, _∙_}
+use mathlib.Core.List.{List, _++_, append-nil, append-assoc}
+use lib.ListN.{length, take, drop, drop-of-length-le, length-drop}
+use lib.Seq.{take-all, length-take-le, drop-drop}
+use borrow.Author.Tests.{le-leb}
+use borrow.Rule.Slice.PartMut.{putMid}
+use Rattle.answers.specs.declared.Answer.{Answer}
+use Rattle.answers.specs.declared.Answer.the-variants.{Accepted, Refused}
+use Rattle.copy.specs.Copy.{maxSize, copied}
+use Rattle.layout.specs.Rules.{sectorBytes}
+use Rattle.layout.specs.declared.Layout.{Layout}
+use Rattle.access.specs.Judging.{isAccepted}
+use Rattle.access.specs.Moving.{extentStart, overlay, filledBy, writtenBy}
+
+-- a part of an image that starts at an offset
+part-length : (image : List ℕ) (size offset : ℕ) → offset + size ≤ length image → length (take size (drop offset image)) ≡ size
+part-length image size offset h =
+    let fits : size ≤ length (drop offset image) = simp length-drop (omega arith) in
+    length-take-le size (drop offset image) fits
+
+-- all that an image has from an offset on
+take-rest : (image : List ℕ) (offset : ℕ) → take (length image - offset) (drop offset image) ≡ drop offset image
+take-rest image offset =
+    let whole : length (drop offset image) ≤ length image - offset = simp length-drop (omega arith) in
+    take-all (length image - offset) (drop offset image) whole
+
+-- a source that fits is copied
+copied-fits : (source target : List ℕ) → length source ≤ maxSize → length source ≤ length target
+    → copied source target ≡ source ++ drop (length source) target
+unfolding copied
+copied-fits source target small fits = simp (le-leb _ _ small, le-leb _ _ fits)
+
+-- a buffer filled from the part of an image that starts at an offset and is as long
+pub copy-out : (image buffer : List ℕ) (offset : ℕ) → length buffer ≤ maxSize → offset + length buffer ≤ length image
+    → copied (take (offset + length buffer - offset) (drop offset image)) buffer ≡ take (length buffer) (drop offset image)
+copy-out image buffer offset small fits =
+    let part = take (length buffer) (drop offset image) in
+    let size = part-length image (length buffer) offset fits in
+    let none : length buffer ≤ length part = omega (arith, size) in
+    ap (λ (n : ℕ). copied (take n (drop offset image)) buffer) (add-sub-cancel-left offset (length buffer))
+    ∙ copied-fits part buffer (omega (arith, size)) (omega (arith, size))
+    ∙ rw (drop-of-length-le buffer none, append-nil)
+
+-- an image whose part from an offset on was written over from its start
+pub copy-in : (image buffer : List ℕ) (offset : ℕ) → length buffer ≤ maxSize → offset + length buffer ≤ length image
+    → putMid offset (length image - offset) image (copied buffer (take (length image - offset) (drop offset image)))
+    ≡ overlay offset buffer image
+unfolding overlay
+copy-in image buffer offset small fits =
+    let rest = drop offset image in
+    let room : length buffer ≤ length rest = simp length-drop (omega arith) in
+    let none : length rest ≤ length image - offset = simp length-drop (omega arith) in
+    ap (putMid offset (length image - offset) image) (ap (copied buffer) (take-rest image offset) ∙ copied-fits buffer rest small room)
+    ∙ simp (drop-of-length-le rest none, append-nil, drop-drop, append-assoc)
+
+module _ (answer : Answer) (layout : Layout) (image : List ℕ) (first : ℕ) (buffer : List ℕ) where
+  pub filled-accepted : (count : ℕ) → answer ≡ Accepted → length buffer ≡ count * sectorBytes
+      → take (length buffer) (drop (extentStart layout first) image) ≡ filledBy answer layout image first count buffer
+  unfolding filledBy isAccepted
+  filled-accepted count e whole = rw (e, whole)
+
+  pub filled-refused : (count number : ℕ) → answer ≡ Refused number → buffer ≡ filledBy answer layout image first count buffer
+  unfolding filledBy isAccepted
+  filled-refused count number e = rw e
+
+  pub written-accepted : answer ≡ Accepted → overlay (extentStart layout first) buffer image ≡ writtenBy answer layout image first buffer
+  unfolding writtenBy isAccepted
+  written-accepted e = rw e
+
+  pub written-refused : (number : ℕ) → answer ≡ Refused number → image ≡ writtenBy answer layout image first buffer
+  unfolding writtenBy isAccepted
+  written-refused number e = rw e

@@ -1,0 +1,83 @@
+-- `access::judge_read` meets its contract: each return is under the checks that were passed, in their order.
+-- Assumes nothing.
+use borrow.Author.Needs.{needs}
+use mathlib.Core.Path.{_≡_, sym, _∙_}
+use mathlib.Core.Bool.{true}
+use borrow.Author.Tests.{eq-eqb, ne-eqb, le-leb, lt-leb, not-true, not-false}
+use Rattle.protection.specs.Protection.{soundProtection}
+use Rattle.access.specs.Judging.{checked, readAnswer}
+use Rattle.access.proofs.judge_read.Statement.{statement}
+use Rattle.access.proofs.judge_read.Tie as tie
+
+-- past the first check the layout is sound, and what is protected
+both-sound : (c : tie.Else1) → let a = c .before .before .args in soundProtection (a .layout) (a .protection) ≡ true
+both-sound c = sym (c .before .is-sound .ensures) ∙ not-false _ (c .if1 .left)
+
+is-sound-requires : tie.Need-is-sound-requires
+is-sound-requires c κs = search needs
+
+returns : tie.Need-returns
+unfolding readAnswer checked
+returns c = simp (sym (c .before .is-sound .ensures) ∙ not-true _ (c .if1 .taken))
+
+returns-2 : tie.Need-returns-2
+unfolding readAnswer checked
+returns-2 c = simp (both-sound (c .before .before), ne-eqb _ _ (c .if2 .taken))
+
+returns-3 : tie.Need-returns-3
+unfolding readAnswer checked
+returns-3 c =
+    let two = c .before in
+    simp (both-sound (two .before .before), eq-eqb _ _ (two .if2 .left), lt-leb _ _ (c .if3 .taken))
+
+mul-if4 : tie.Need-mul-if4
+mul-if4 c = search needs
+
+returns-4 : tie.Need-returns-4
+unfolding readAnswer checked
+returns-4 c =
+    let two = c .before .before in
+    simp (both-sound (two .before .before), eq-eqb _ _ (two .if2 .left), le-leb _ _ (c .before .if3 .left), ne-eqb _ _ (c .if4 .taken))
+
+is-inside-requires : tie.Need-is-inside-requires
+is-inside-requires c κs = search needs
+
+returns-5 : tie.Need-returns-5
+unfolding readAnswer checked
+returns-5 c =
+    let four = c .before .before in
+    let two = four .before .before in
+    simp (
+      both-sound (two .before .before),
+      eq-eqb _ _ (two .if2 .left),
+      le-leb _ _ (four .before .if3 .left),
+      eq-eqb _ _ (four .if4 .left),
+      sym (c .before .is-inside .ensures) ∙ not-true _ (c .if5 .taken),
+    )
+
+returns-6 : tie.Need-returns-6
+unfolding readAnswer checked
+returns-6 c =
+    let four = c .before .before in
+    let two = four .before .before in
+    simp (
+      both-sound (two .before .before),
+      eq-eqb _ _ (two .if2 .left),
+      le-leb _ _ (four .before .if3 .left),
+      eq-eqb _ _ (four .if4 .left),
+      sym (c .before .is-inside .ensures) ∙ not-false _ (c .if5 .left),
+    )
+
+pub judge-read-spec : {M : Type 1} → statement M
+judge-read-spec =
+    tie.close
+    (tie.spec
+    is-sound-requires
+    returns
+    returns-2
+    returns-3
+    mul-if4
+    returns-4
+    is-inside-requires
+    returns-5
+    returns-6)

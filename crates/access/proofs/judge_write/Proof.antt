@@ -1,0 +1,40 @@
+-- `access::judge_write` meets its contract: the checks of every call, then those of a write.
+-- Assumes nothing.
+use borrow.Author.Needs.{needs}
+use mathlib.Core.Path.{sym, _∙_}
+use Rattle.access.specs.Judging.{writeAnswer}
+use Rattle.access.proofs.JudgingLaws.{read-passed, checked-passed, checked-refused}
+use Rattle.access.proofs.judge_write.Statement.{statement}
+use Rattle.access.proofs.judge_write.Tie as tie
+
+judge-read-requires : tie.Need-judge-read-requires
+judge-read-requires c κs = search needs
+
+enum-told : tie.Need-enum-told
+enum-told c = search needs
+
+judge-lock-requires : tie.Need-judge-lock-requires
+judge-lock-requires c κs = search needs
+
+enum-told-2 : tie.Need-enum-told-2
+enum-told-2 c = search needs
+
+returns : tie.Need-returns
+unfolding writeAnswer
+returns c =
+    let accepted = c .before in
+    let read = accepted .before .before in
+    let passed = read-passed _ _ _ _ _ _ (sym (read .judge-read .ensures) ∙ accepted .enum-told .given .1) in
+    c .judge-lock .ensures ∙ sym (checked-passed _ _ _ _ _ _ passed _)
+
+returns-2 : tie.Need-returns-2
+unfolding writeAnswer
+returns-2 c =
+    let read = c .before .before in
+    let refused = c .enum-told2 .given .1 in
+    refused ∙ sym (checked-refused _ _ _ _ _ _ _ _ (sym (read .judge-read .ensures) ∙ refused))
+
+pub judge-write-spec : {M : Type 1} → statement M
+judge-write-spec =
+    tie.close
+    (tie.spec judge-read-requires enum-told judge-lock-requires enum-told-2 returns returns-2)

@@ -1,0 +1,56 @@
+-- `access::lay` meets its contract.
+-- Assumes nothing.
+use borrow.Author.Needs.{needs}
+use Prim.Native.Nat.{ℕ, _+_, _-_, _≤_}
+use mathlib.Core.List.{List}
+use mathlib.Core.Path.{ap, _∙_}
+use native.Mathlib.Omega.{arith}
+use borrow.Rule.Slice.PartMut.{putMid}
+use denote.Ref.{now}
+use lib.ListN.{length}
+use Rattle.access.specs.Moving.{overlay}
+use Rattle.access.proofs.MovingLaws.{copy-in}
+use Rattle.access.proofs.lay.Statement.{statement}
+use Rattle.access.proofs.lay.Tie as tie
+
+extent-start-requires : tie.Need-extent-start-requires
+extent-start-requires c κs = search needs
+
+sub-copy : tie.Need-sub-copy
+sub-copy c = search needs
+
+part-copy-start : tie.Need-part-copy-start
+part-copy-start c = search needs
+
+part-copy-end : tie.Need-part-copy-end
+part-copy-end c = search needs
+
+copy-requires : tie.Need-copy-requires
+copy-requires c κs = search needs
+
+same-length : tie.Need-same-length
+same-length c = search needs
+
+returns : tie.Need-returns
+returns c =
+    let copy = c .before .before in
+    let extent = copy .before .before in
+    let start = extent .before .before .before in
+    let image : List ℕ = now (start .args .image) in
+    let buffer : List ℕ = now (start .args .buffer) in
+    let offset = extent .extent-start .result in
+    let fits : offset + length buffer ≤ length image = omega (arith, extent .extent-start .ensures, start .pre) in
+    ap (λ (bytes : List ℕ). putMid offset (length image - offset) image bytes) (copy .copy .ensures)
+    ∙ copy-in image buffer offset (start .pre .1 .1 .0) fits ∙ ap (λ (n : ℕ). overlay n buffer image) (extent .extent-start .ensures)
+
+pub lay-spec : {M : Type 1} → statement M
+lay-spec =
+    tie.close
+    (tie.spec
+    extent-start-requires
+    sub-copy
+    part-copy-start
+    part-copy-end
+    copy-requires
+    same-length
+    returns)

@@ -1,0 +1,62 @@
+-- The order of checks (RULES.md, Reads and writes): what a read or a write answers, by lengths and numbers alone. What the contracts of
+-- `access` cite. Assumes nothing.
+use Prim.Native.Nat.{ℕ, _+_, _*_}
+use mathlib.Core.Bool.{Bool, true, false, not, cond}
+use lib.Dec.{leb, eqb}
+use Rattle.answers.specs.Answers.{line}
+use Rattle.answers.specs.declared.Answer.{Answer}
+use Rattle.answers.specs.declared.Answer.the-variants.{Accepted, Refused}
+use Rattle.extent.specs.Extents.{overlap}
+use Rattle.extent.specs.declared.Overlap.{Overlap}
+use Rattle.extent.specs.declared.Overlap.the-variants.{Apart, From}
+use Rattle.layout.specs.Rules.{sectorBytes}
+use Rattle.layout.specs.declared.Layout.{Layout}
+use Rattle.protection.specs.Protection.{soundProtection, protectedExtent}
+use Rattle.protection.specs.declared.Protection.{Protection}
+use Rattle.sector_map.specs.SectorMap.{sectors}
+
+-- the most sectors of one call
+abbrev pub maxCount : ℕ
+maxCount = 128
+
+-- the checks of every call, in order, and then the later ones: of a layout and what is protected, the image's length, an extent and the
+-- buffer's length
+unfoldable pub checked : Layout → Protection → ℕ → ℕ → ℕ → ℕ → Answer → Answer
+checked layout protection imageSize first count bufferSize later =
+    line (Refused 11) (soundProtection layout protection)
+    (line (Refused 13) (eqb imageSize (layout .«host_size»))
+    (line (Refused 14) (leb count maxCount)
+    (line (Refused 15) (eqb bufferSize (count * sectorBytes)) (line (Refused 16) (leb (first + count) (sectors layout)) later))))
+
+-- what an extent shares with the protected range is refused
+unfoldable pub apartAnswer : Overlap → Answer
+apartAnswer Apart = Accepted
+apartAnswer (From sector) = Refused 18
+
+-- the later checks of a write: the lock, and then the protected range
+unfoldable pub lockAnswer : Layout → Protection → Bool → ℕ → ℕ → Answer
+lockAnswer layout protection locked first count =
+    line (Refused 17) (not locked) (apartAnswer (overlap (record { first = first; count = count }) (protectedExtent layout protection)))
+
+-- what a read answers
+unfoldable pub readAnswer : Layout → Protection → ℕ → ℕ → ℕ → ℕ → Answer
+readAnswer layout protection imageSize first count bufferSize = checked layout protection imageSize first count bufferSize Accepted
+
+-- what a write answers
+unfoldable pub writeAnswer : Layout → Protection → Bool → ℕ → ℕ → ℕ → ℕ → Answer
+writeAnswer layout protection locked imageSize first count bufferSize =
+    checked layout protection imageSize first count bufferSize (lockAnswer layout protection locked first count)
+
+-- an answer is an acceptance
+unfoldable pub isAccepted : Answer → Bool
+isAccepted Accepted = true
+isAccepted (Refused number) = false
+
+-- an answer closes the lock: 18 does
+unfoldable pub closesLock : Answer → Bool
+closesLock Accepted = false
+closesLock (Refused number) = eqb number 18
+
+-- a lock after a write
+unfoldable pub lockedAfter : Bool → Answer → Bool
+lockedAfter locked answer = cond (closesLock answer) true locked
