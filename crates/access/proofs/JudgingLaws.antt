@@ -1,15 +1,18 @@
 -- What an acceptance says of a call, and how the later checks of a write join those of every call.
 -- Assumes nothing.
-use Prim.Native.Nat.{ℕ, _+_, _-_, _*_, _≤_}
+use Prim.Native.Nat.{ℕ, suc, _+_, _-_, _*_, _≤_}
 use native.Mathlib.Omega.{arith}
-use mathlib.Core.Path.{_≡_, refl, sym, ap}
-use mathlib.Core.Bool.{Bool, true, false, true≢false}
+use mathlib.Core.Path.{_≡_, sym, _∙_}
+use mathlib.Core.Bool.{Bool, true, false, not}
 use lib.Dec.{leb, eqb}
 use borrow.Author.Tests.{leb-true, eqb-true, le-leb, eq-eqb}
 use Rattle.answers.specs.Answers.{line}
 use Rattle.answers.specs.declared.Answer.{Answer}
 use Rattle.answers.specs.declared.Answer.the-variants.{Accepted, Refused}
+use Rattle.answers.proofs.AnswerLaws.{refused-accepted, line-accepted, line-holds}
 use Rattle.copy.specs.Copy.{maxSize}
+use Rattle.extent.specs.declared.Overlap.{Overlap}
+use Rattle.extent.specs.declared.Overlap.the-variants.{Apart, From}
 use Rattle.layout.specs.Rules.{sectorBytes}
 use Rattle.layout.specs.Soundness.{sound}
 use Rattle.layout.specs.declared.Layout.{Layout}
@@ -18,21 +21,12 @@ use Rattle.layout.proofs.TestLaws.{leb-iff}
 use Rattle.protection.specs.Protection.{protectionRule, soundProtection}
 use Rattle.protection.specs.declared.Protection.{Protection}
 use Rattle.sector_map.specs.SectorMap.{sectors}
-use Rattle.access.specs.Judging.{maxCount, checked, lockAnswer, readAnswer, writeAnswer, isAccepted}
+use Rattle.access.specs.Judging.{maxCount, checked, apartAnswer, lockAnswer, readAnswer, writeAnswer}
 use Rattle.access.specs.Moving.{extentStart}
 
 -- an extent's end by what is left of the volume
 pub inside-by-rest : (first count total : ℕ) → count ≤ total → leb first (total - count) ≡ leb (first + count) total
 inside-by-rest first count total h = leb-iff first (total - count) (first + count) total (λ k. omega arith) (λ k. omega arith)
-
-pub refused-accepted : {A : Type 0} (number : ℕ) → Refused number ≡ Accepted → A
-unfolding isAccepted
-refused-accepted number e = absurd (true≢false (sym (ap isAccepted e)))
-
--- a check that an acceptance has passed
-line-kept : (number : ℕ) (kept : Bool) (later : Answer) → line (Refused number) kept later ≡ Accepted → (kept ≡ true) × (later ≡ Accepted)
-line-kept number true later e = (refl, e)
-line-kept number false later e = refused-accepted number e
 
 -- a refusal by five checks does not depend on the later ones
 refused-alike : (a b c d e : Bool) (number : ℕ) (later : Answer)
@@ -57,11 +51,11 @@ module _ (layout : Layout) (protection : Protection) (imageSize first count buff
   pub checked-accepted : (later : Answer) → checked layout protection imageSize first count bufferSize later ≡ Accepted → Passed × (later ≡ Accepted)
   unfolding checked
   checked-accepted later e =
-      let p11 = line-kept 11 (soundProtection layout protection) _ e in
-      let p13 = line-kept 13 (eqb imageSize (layout .«host_size»)) _ (p11 .1) in
-      let p14 = line-kept 14 (leb count maxCount) _ (p13 .1) in
-      let p15 = line-kept 15 (eqb bufferSize (count * sectorBytes)) _ (p14 .1) in
-      let p16 = line-kept 16 (leb (first + count) (sectors layout)) later (p15 .1) in (
+      let p11 = line-accepted 11 (soundProtection layout protection) _ e in
+      let p13 = line-accepted 13 (eqb imageSize (layout .«host_size»)) _ (p11 .1) in
+      let p14 = line-accepted 14 (leb count maxCount) _ (p13 .1) in
+      let p15 = line-accepted 15 (eqb bufferSize (count * sectorBytes)) _ (p14 .1) in
+      let p16 = line-accepted 16 (leb (first + count) (sectors layout)) later (p15 .1) in (
         record {
           soundness = p11 .0;
           imageWhole = eqb-true imageSize (layout .«host_size») (p13 .0);
@@ -72,13 +66,14 @@ module _ (layout : Layout) (protection : Protection) (imageSize first count buff
         p16 .1,
       )
 
-  pub read-passed : readAnswer layout protection imageSize first count bufferSize ≡ Accepted → Passed
+  pub read-passed : {answer : Answer} → answer ≡ readAnswer layout protection imageSize first count bufferSize → answer ≡ Accepted → Passed
   unfolding readAnswer
-  read-passed e = checked-accepted Accepted e .0
+  read-passed judged e = checked-accepted Accepted (sym judged ∙ e) .0
 
-  pub write-passed : (locked : Bool) → writeAnswer layout protection locked imageSize first count bufferSize ≡ Accepted → Passed
+  pub write-passed : {answer : Answer} (locked : Bool) → answer ≡ writeAnswer layout protection locked imageSize first count bufferSize
+      → answer ≡ Accepted → Passed
   unfolding writeAnswer
-  write-passed locked e = checked-accepted (lockAnswer layout protection locked first count) e .0
+  write-passed locked judged e = checked-accepted (lockAnswer layout protection locked first count) (sym judged ∙ e) .0
 
   pub passed-layout : Passed → sound layout ≡ true
   unfolding soundProtection
@@ -95,15 +90,40 @@ module _ (layout : Layout) (protection : Protection) (imageSize first count buff
       (kept, (omega (arith, p .inside), (omega (arith, p .few, p .bufferWhole), fits)))
 
   -- past the checks of every call, the later ones decide
-  pub checked-passed : Passed → (later : Answer) → checked layout protection imageSize first count bufferSize later ≡ later
+  pub checked-passed : Passed → (later : Answer) → later ≡ checked layout protection imageSize first count bufferSize later
   unfolding checked
   checked-passed p later =
-      simp (p .soundness, eq-eqb _ _ (p .imageWhole), le-leb _ _ (p .few), eq-eqb _ _ (p .bufferWhole), le-leb _ _ (p .inside))
+      sym (simp (p .soundness, eq-eqb _ _ (p .imageWhole), le-leb _ _ (p .few), eq-eqb _ _ (p .bufferWhole), le-leb _ _ (p .inside)))
 
   -- and a refusal among them is that of a read
-  pub checked-refused : (number : ℕ) (later : Answer) → readAnswer layout protection imageSize first count bufferSize ≡ Refused number
-      → checked layout protection imageSize first count bufferSize later ≡ Refused number
+  pub checked-refused : {answer : Answer} {number : ℕ} (later : Answer) → answer ≡ readAnswer layout protection imageSize first count bufferSize
+      → answer ≡ Refused number → answer ≡ checked layout protection imageSize first count bufferSize later
   unfolding readAnswer checked
-  checked-refused number later e =
-      refused-alike (soundProtection layout protection) (eqb imageSize (layout .«host_size»)) (leb count maxCount)
-      (eqb bufferSize (count * sectorBytes)) (leb (first + count) (sectors layout)) number later e
+  checked-refused {number = number} later judged e =
+      e ∙ sym (refused-alike (soundProtection layout protection) (eqb imageSize (layout .«host_size»)) (leb count maxCount)
+      (eqb bufferSize (count * sectorBytes)) (leb (first + count) (sectors layout)) number later (sym judged ∙ e))
+
+-- no call is refused by 0: what holds of an acceptance and of refusals with other numbers holds of every answer
+module _ (P : Answer → Type 0) (accepted : P Accepted) (refused : (number : ℕ) → P (Refused (suc number)))
+    (layout : Layout) (protection : Protection) (imageSize first count bufferSize : ℕ) where
+  checked-holds : (later : Answer) → P later → P (checked layout protection imageSize first count bufferSize later)
+  unfolding checked
+  checked-holds later p =
+      line-holds P _ (soundProtection layout protection) _ (refused 10)
+      (line-holds P _ (eqb imageSize (layout .«host_size»)) _ (refused 12)
+      (line-holds P _ (leb count maxCount) _ (refused 13)
+      (line-holds P _ (eqb bufferSize (count * sectorBytes)) _ (refused 14)
+      (line-holds P _ (leb (first + count) (sectors layout)) later (refused 15) p))))
+
+  pub read-holds : P (readAnswer layout protection imageSize first count bufferSize)
+  unfolding readAnswer
+  read-holds = checked-holds Accepted accepted
+
+  apart-holds : (shared : Overlap) → P (apartAnswer shared)
+  unfolding apartAnswer
+  apart-holds Apart = accepted
+  apart-holds (From sector) = refused 17
+
+  pub write-holds : (locked : Bool) → P (writeAnswer layout protection locked imageSize first count bufferSize)
+  unfolding writeAnswer lockAnswer
+  write-holds locked = checked-holds _ (line-holds P _ (not locked) _ (refused 16) (apart-holds _))

@@ -9,12 +9,12 @@ use lib.ListN.{length, take, drop, drop-of-length-le, length-drop}
 use lib.Seq.{take-all, length-take-le, drop-drop}
 use borrow.Author.Tests.{le-leb}
 use borrow.Rule.Slice.PartMut.{putMid}
+use Rattle.answers.specs.Answers.{isAccepted}
 use Rattle.answers.specs.declared.Answer.{Answer}
 use Rattle.answers.specs.declared.Answer.the-variants.{Accepted, Refused}
 use Rattle.copy.specs.Copy.{maxSize, copied}
 use Rattle.layout.specs.Rules.{sectorBytes}
 use Rattle.layout.specs.declared.Layout.{Layout}
-use Rattle.access.specs.Judging.{isAccepted}
 use Rattle.access.specs.Moving.{extentStart, overlay, filledBy, writtenBy}
 
 -- a part of an image that starts at an offset

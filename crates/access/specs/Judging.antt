@@ -47,11 +47,6 @@ unfoldable pub writeAnswer : Layout → Protection → Bool → ℕ → ℕ → 
 writeAnswer layout protection locked imageSize first count bufferSize =
     checked layout protection imageSize first count bufferSize (lockAnswer layout protection locked first count)
 
--- an answer is an acceptance
-unfoldable pub isAccepted : Answer → Bool
-isAccepted Accepted = true
-isAccepted (Refused number) = false
-
 -- an answer closes the lock: 18 does
 unfoldable pub closesLock : Answer → Bool
 closesLock Accepted = false

@@ -5,12 +5,12 @@ use mathlib.Core.Bool.{_&&_, cond}
 use mathlib.Core.List.{List, _++_}
 use lib.Dec.{leb}
 use lib.ListN.{length, take, drop}
+use Rattle.answers.specs.Answers.{isAccepted}
 use Rattle.answers.specs.declared.Answer.{Answer}
 use Rattle.layout.specs.Rules.{sectorBytes}
 use Rattle.layout.specs.Soundness.{sound}
 use Rattle.layout.specs.declared.Layout.{Layout}
 use Rattle.sector_map.specs.SectorMap.{sectors}
-use Rattle.access.specs.Judging.{isAccepted}
 
 -- the first byte of an extent in the host: O and 512 for each user sector before it
 unfoldable pub extentStart : Layout → ℕ → ℕ

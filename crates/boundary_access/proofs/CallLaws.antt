@@ -5,10 +5,9 @@ use mathlib.Core.Path.{_≡_, sym, ap, _∙_}
 use mathlib.Core.List.{List}
 use lib.ListN.{length}
 use Rattle.answers.specs.Answers.{answerRefusal}
-use Rattle.view.specs.Access.{readNumber, writeNumber, filledBy, writtenBy, ReadPost, WritePost}
+use Rattle.view.specs.Outcomes.{viewRead, viewWrite, viewFilled, viewWritten, ReadPost, WritePost}
 use Rattle.view.specs.declared.Outcome.{Outcome}
 use Rattle.view.specs.declared.View.{View}
-use Rattle.view.proofs.AccessLaws.{answer-number-answered}
 use Rattle.boundary_numbers.specs.BoundaryNumbers.{viewFrom}
 use Rattle.boundary_access.specs.BoundaryAccess.{viewLeft, ReadCall, WriteCall}
 
@@ -18,9 +17,9 @@ module _ (numbers image : List ℕ) (first count : ℕ) (buffer : List ℕ) (vie
   read-call filled post =
       record {
         returns =
-            told ∙ ap answerRefusal (post .answers) ∙ answer-number-answered _
-            ∙ ap (λ (v : View). readNumber v (length image) first count (length buffer)) tells;
-        fills = post .fills ∙ ap (λ (v : View). filledBy v image first count buffer) tells;
+            told ∙ ap answerRefusal (post .answers)
+            ∙ ap (λ (v : View). answerRefusal (viewRead v (length image) first count (length buffer))) tells;
+        fills = post .fills ∙ ap (λ (v : View). viewFilled v image first count buffer) tells;
       }
 
   pub write-call : (written left : List ℕ) (given : ℕ) → number ≡ given → WritePost view image first count buffer outcome written
@@ -28,8 +27,8 @@ module _ (numbers image : List ℕ) (first count : ℕ) (buffer : List ℕ) (vie
   write-call written left given same post locks =
       record {
         returns =
-            told ∙ ap answerRefusal (post .answers) ∙ answer-number-answered _
-            ∙ ap (λ (v : View). writeNumber v (length image) first count (length buffer)) tells;
-        writes = post .writes ∙ ap (λ (v : View). writtenBy v image first count buffer) tells;
+            told ∙ ap answerRefusal (post .answers)
+            ∙ ap (λ (v : View). answerRefusal (viewWrite v (length image) first count (length buffer))) tells;
+        writes = post .writes ∙ ap (λ (v : View). viewWritten v image first count buffer) tells;
         locks = locks ∙ ap (λ (n : ℕ). viewLeft n numbers) (sym same);
       }

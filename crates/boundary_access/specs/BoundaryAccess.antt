@@ -5,7 +5,8 @@ use mathlib.Core.Bool.{cond}
 use mathlib.Core.List.{List}
 use lib.Dec.{eqb}
 use lib.ListN.{length, set}
-use Rattle.view.specs.Access.{readNumber, writeNumber, filledBy, writtenBy}
+use Rattle.answers.specs.Answers.{answerRefusal}
+use Rattle.view.specs.Outcomes.{viewRead, viewWrite, viewFilled, viewWritten}
 use Rattle.boundary_numbers.specs.BoundaryNumbers.{lockIndex, viewFrom}
 
 -- what a write leaves of a view's numbers: 18 closes the lock, and nothing else changes them
@@ -14,11 +15,11 @@ viewLeft number before = cond (eqb number 18) (set before lockIndex 1) before
 
 -- what a read leaves, for a view's numbers: the number that it returns, and the buffer
 pub record ReadCall (view image : List ℕ) (first count : ℕ) (buffer : List ℕ) (number : ℕ) (filled : List ℕ) : Type 0 where
-  pub returns : number ≡ readNumber (viewFrom view) (length image) first count (length buffer)
-  pub fills : filled ≡ filledBy (viewFrom view) image first count buffer
+  pub returns : number ≡ answerRefusal (viewRead (viewFrom view) (length image) first count (length buffer))
+  pub fills : filled ≡ viewFilled (viewFrom view) image first count buffer
 
 -- what a write leaves: the number that it returns, the image, and the view's numbers
 pub record WriteCall (view image : List ℕ) (first count : ℕ) (buffer : List ℕ) (number : ℕ) (written left : List ℕ) : Type 0 where
-  pub returns : number ≡ writeNumber (viewFrom view) (length image) first count (length buffer)
-  pub writes : written ≡ writtenBy (viewFrom view) image first count buffer
+  pub returns : number ≡ answerRefusal (viewWrite (viewFrom view) (length image) first count (length buffer))
+  pub writes : written ≡ viewWritten (viewFrom view) image first count buffer
   pub locks : left ≡ viewLeft number view

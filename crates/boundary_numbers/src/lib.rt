@@ -14,7 +14,7 @@ ghost use Rattle.boundary_numbers.specs.BoundaryNumbers.{viewNumbers, vi
 use answers::Numbered;
 use layout::Layout;
 use layout::Opened;
-use view::Protection;
+use protection::Protection;
 use view::View;
 use view::Viewed;
 

@@ -4,14 +4,15 @@ use Prim.Native.Nat.{ℕ}
 use native.Mathlib.Omega.{arith}
 use mathlib.Core.Path.{_≡_, refl, _∙_}
 use mathlib.Core.List.{List}
+use lib.ListN.{length}
 use Rattle.answers.specs.Answers.{numberedRefusal, answerRefusal}
 use Rattle.layout.specs.Opened.{openedRefusal}
 use Rattle.opening.specs.Opening.{keysOffset, keysSize}
 use Rattle.opening.proofs.OpenedLaws.{opened-inside}
 use Rattle.sector_map.specs.SectorMap.{tweakOf, tweakNumber}
 use Rattle.view.specs.Views.{viewedRefusal}
-use Rattle.view.specs.declared.Protection.{Protection}
-use Rattle.view.specs.declared.Protection.the-variants.{Unprotected, Protected}
+use Rattle.protection.specs.declared.Protection.{Protection}
+use Rattle.protection.specs.declared.Protection.the-variants.{Unprotected, Protected}
 use Rattle.boundary_numbers.specs.BoundaryNumbers.{layoutNumbers, layoutFrom, protectionNumbers, protectionFrom, viewNumbers, viewFrom}
 use Rattle.boundary_numbers.specs.BoundaryNumbers.{numberedLeft, openedLeft, viewedLeft, blockLeft}
 use Rattle.boundary_opening.specs.BoundaryOpening.{keysLeft}
@@ -19,7 +20,7 @@ use Rattle.boundary_access.specs.BoundaryAccess.{viewLeft}
 use Rattle.guarantees.specs.Boundary.{TellsNumbers, ReturnsZero, OrdersNumbers, storedProtection, StoresAnswers}
 use Rattle.guarantees.proofs.BoundaryNumbers.{view-of-numbers, set-last}
 use Rattle.guarantees.proofs.BoundaryZero.{located-zero, opened-zero, host-sector-zero, user-sector-zero}
-use Rattle.guarantees.proofs.BoundaryZero.{plain-view-zero, protected-view-zero, answered-zero}
+use Rattle.guarantees.proofs.BoundaryZero.{plain-view-zero, protected-view-zero, read-zero, write-zero}
 use Rattle.guarantees.proofs.Reflects.{is-false, reflects-eqb}
 
 pub tells-numbers : TellsNumbers
@@ -47,8 +48,8 @@ returns-zero =
       tweaks = host-sector-zero;
       plainViews = plain-view-zero;
       protectedViews = protected-view-zero;
-      reads = λ view image first count buffer filled outcome post. rw (post .answers) (answered-zero _);
-      writes = λ view image first count buffer written outcome post. rw (post .answers) (answered-zero _);
+      reads = λ view image first count buffer filled outcome post. rw (post .answers) (read-zero view (length image) first count (length buffer));
+      writes = λ view image first count buffer written outcome post. rw (post .answers) (write-zero view (length image) first count (length buffer));
     }
 
 pub orders-numbers : (host kind magic version program start size candidate protected first end lock : ℕ)

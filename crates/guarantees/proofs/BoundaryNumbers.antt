@@ -9,11 +9,15 @@ use lib.Dec.{ltb, eqb}
 use lib.ListN.{length, getD, set, take, drop}
 use lib.Seq.{getD-set-same, getD-set-other, set-split, drop-length}
 use borrow.Author.Tests.{ltb-true}
+use Rattle.access.specs.Judging.{closesLock, lockedAfter}
+use Rattle.answers.specs.Answers.{answerRefusal}
+use Rattle.answers.specs.declared.Answer.{Answer}
+use Rattle.answers.specs.declared.Answer.the-variants.{Accepted, Refused}
 use Rattle.layout.specs.declared.Layout.{Layout}
-use Rattle.view.specs.declared.Protection.{Protection}
-use Rattle.view.specs.declared.Protection.the-variants.{Unprotected, Protected}
+use Rattle.protection.specs.declared.Protection.{Protection}
+use Rattle.protection.specs.declared.Protection.the-variants.{Unprotected, Protected}
 use Rattle.view.specs.declared.View.{View}
-use Rattle.view.specs.Access.{after}
+use Rattle.view.specs.Outcomes.{after}
 use Rattle.boundary_numbers.specs.BoundaryNumbers.{layoutNumbers, layoutFrom, protectionNumbers, protectionFrom, viewNumbers, viewFrom}
 use Rattle.boundary_access.specs.BoundaryAccess.{viewLeft}
 
@@ -48,10 +52,16 @@ module _ (numbers : List ℕ) (h : 11 < length numbers) where
   view-of-cond-set true = view-of-set
   view-of-cond-set false = refl
 
+closes-18 : (answer : Answer) → eqb (answerRefusal answer) 18 ≡ closesLock answer
+unfolding answerRefusal closesLock
+closes-18 Accepted = refl
+closes-18 (Refused number) = refl
+
 -- the numbers that a write leaves tell the view that it hands back
-pub view-of-left : (number : ℕ) (numbers : List ℕ) → length numbers ≡ 12 → viewFrom (viewLeft number numbers) ≡ after (viewFrom numbers) number
-unfolding viewLeft after
-view-of-left number numbers h = view-of-cond-set numbers (omega arith) (eqb number 18)
+pub view-of-left : (answer : Answer) (numbers : List ℕ) → length numbers ≡ 12
+    → viewFrom (viewLeft (answerRefusal answer) numbers) ≡ after (viewFrom numbers) answer
+unfolding viewLeft after lockedAfter
+view-of-left answer numbers h = rw (closes-18 answer) (view-of-cond-set numbers (omega arith) (closesLock answer))
 
 -- a list with another last number
 pub set-last : (l : List ℕ) (n v : ℕ) → length l ≡ suc n → set l n v ≡ take n l ++ (v ∷ [])

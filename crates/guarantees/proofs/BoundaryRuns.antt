@@ -1,14 +1,20 @@
 -- Calls over numbers are runs on the views that the numbers tell. Assumes nothing.
-use Prim.Native.Nat.{ℕ}
+use Prim.Native.Nat.{ℕ, suc}
+use native.Mathlib.Omega.{arith}
 use mathlib.Core.Path.{_≡_, refl, ap, _∙_}
 use mathlib.Core.Bool.{Bool, true, false, cond}
 use mathlib.Core.List.{List, [], _∷_, _++_}
 use lib.Dec.{eqb}
 use lib.ListN.{length, set, length-set}
+use borrow.Author.Tests.{ne-eqb}
+use Rattle.access.proofs.JudgingLaws.{read-holds, write-holds}
+use Rattle.answers.specs.Answers.{answerRefusal}
+use Rattle.answers.specs.declared.Answer.{Answer}
+use Rattle.answers.specs.declared.Answer.the-variants.{Accepted, Refused}
 use Rattle.layout.specs.declared.Layout.{Layout}
-use Rattle.view.specs.Access.{writeNumber, answered}
-use Rattle.view.specs.declared.Protection.{Protection}
-use Rattle.view.specs.declared.Protection.the-variants.{Unprotected, Protected}
+use Rattle.view.specs.Outcomes.{viewRead, viewWrite}
+use Rattle.protection.specs.declared.Protection.{Protection}
+use Rattle.protection.specs.declared.Protection.the-variants.{Unprotected, Protected}
 use Rattle.view.specs.declared.View.{View}
 use Rattle.view.specs.declared.Viewed.the-variants.{Made}
 use Rattle.boundary_numbers.specs.BoundaryNumbers.{viewFrom, viewedLeft}
@@ -34,16 +40,42 @@ length-left number before = go (eqb number 18)
     go true = length-set before 11 1
     go false = refl
 
+-- the answer that a number tells
+abbrev answerWith : ℕ → Answer
+answerWith number = cond (eqb number 0) Accepted (Refused number)
+
+-- an answer is told by its number
+abbrev Told : Answer → Type 0
+Told answer = answerWith (answerRefusal answer) ≡ answer
+
+accepted-told : Told Accepted
+unfolding answerRefusal
+accepted-told = refl
+
+refused-told : (number : ℕ) → Told (Refused (suc number))
+unfolding answerRefusal
+refused-told number = rw (ne-eqb (suc number) 0 (λ e. omega arith))
+
+read-told : (view : View) (imageSize first count bufferSize : ℕ) → Told (viewRead view imageSize first count bufferSize)
+read-told view = read-holds Told accepted-told refused-told (view .layout) (view .protection)
+
+write-told : (view : View) (imageSize first count bufferSize : ℕ) → Told (viewWrite view imageSize first count bufferSize)
+write-told view imageSize first count bufferSize =
+    write-holds Told accepted-told refused-told (view .layout) (view .protection) imageSize first count bufferSize (view .locked)
+
+told-back : {number : ℕ} {answer : Answer} → number ≡ answerRefusal answer → Told answer → answerWith number ≡ answer
+told-back e t = ap answerWith e ∙ t
+
 -- one view's numbers
 step-is : (state after : State (List ℕ)) (operation : Operation) (first count : ℕ) (buffer : List ℕ) (given : Reply ℕ) → length (state .held) ≡ 12
     → NumberKeeps operation state first count buffer given after
     → Keeps operation (stateWith viewFrom state) first count buffer (answerTold given) (stateWith viewFrom after) × (length (after .held) ≡ 12)
-unfolding NumberKeeps Keeps stateWith answerTold answered
+unfolding NumberKeeps Keeps stateWith answerTold
 step-is state after reads first count buffer given twelve kept = (
   (
     record {
       same = ap (λ (s : State (List ℕ)). viewFrom (s .held)) (kept .1);
-      answers = ap answered (kept .0 .returns);
+      answers = told-back (kept .0 .returns) (read-told (viewFrom (state .held)) (length (state .image)) first count (length buffer));
       fills = kept .0 .fills;
     },
     ap (λ (s : State (List ℕ)). s .image) (kept .1),
@@ -51,17 +83,17 @@ step-is state after reads first count buffer given twelve kept = (
   ap (λ (s : State (List ℕ)). length (s .held)) (kept .1) ∙ twelve,
 )
 step-is state after writes first count buffer given twelve kept =
-    let number = writeNumber (viewFrom (state .held)) (length (state .image)) first count (length buffer) in
-    let left : after .held ≡ viewLeft number (state .held) = kept .0 .locks ∙ ap (λ (n : ℕ). viewLeft n (state .held)) (kept .0 .returns) in (
+    let answer = viewWrite (viewFrom (state .held)) (length (state .image)) first count (length buffer) in
+    let left : after .held ≡ viewLeft (answerRefusal answer) (state .held) = kept .0 .locks ∙ ap (λ (n : ℕ). viewLeft n (state .held)) (kept .0 .returns) in (
       (
         record {
-          back = ap viewFrom left ∙ view-of-left number (state .held) twelve;
-          answers = ap answered (kept .0 .returns);
+          back = ap viewFrom left ∙ view-of-left answer (state .held) twelve;
+          answers = told-back (kept .0 .returns) (write-told (viewFrom (state .held)) (length (state .image)) first count (length buffer));
           writes = kept .0 .writes;
         },
         kept .1,
       ),
-      ap length left ∙ length-left number (state .held) ∙ twelve,
+      ap length left ∙ length-left (answerRefusal answer) (state .held) ∙ twelve,
     )
 
 step-exists : (state : State (List ℕ)) (call : Call) → (given : Reply ℕ) × (after : State (List ℕ)) × NumberStep state call given after

@@ -1,15 +1,16 @@
 -- The number of an answer is 0 exactly where the answer is an acceptance: no call is refused by 0.
 -- Assumes nothing.
-use Prim.Native.Nat.{ℕ, _+_, _<_}
+use Prim.Native.Nat.{ℕ, suc, _+_, _<_}
 use native.Mathlib.Omega.{arith}
 use mathlib.Core.Path.{_≡_, refl, ap, _∙_}
 use mathlib.Core.Logic.{_↔_}
 use mathlib.Core.Bool.{Bool, true, false, _&&_, cond}
 use mathlib.Core.List.{List}
-use lib.Dec.{leb, ltb, eqb}
+use lib.Dec.{leb, ltb}
 use lib.ListN.{length}
-use borrow.Author.Tests.{eqb-true}
-use Rattle.answers.specs.Answers.{line, numberedRefusal}
+use Rattle.answers.specs.Answers.{line, answerRefusal, numberedRefusal}
+use Rattle.answers.specs.declared.Answer.{Answer}
+use Rattle.answers.proofs.AnswerLaws.{refused-accepted}
 use Rattle.layout.specs.Opened.{openedRefusal}
 use Rattle.layout.specs.Rules.{hostSizeRule}
 use Rattle.layout.specs.Soundness.{sound}
@@ -20,8 +21,11 @@ use Rattle.locations.specs.Locations.{codeRule, located}
 use Rattle.opening.specs.Opening.{searched, opened}
 use Rattle.sector_map.specs.SectorMap.{sectors, firstSector, hostSector, userSector}
 use Rattle.answers.specs.declared.Numbered.the-variants.{Number}
-use Rattle.view.specs.Access.{answered}
-use Rattle.view.specs.Views.{plainView, nests, protectedView, viewedRefusal}
+use Rattle.access.proofs.JudgingLaws.{read-holds, write-holds}
+use Rattle.protection.specs.Protection.{nests, pairAnswer}
+use Rattle.view.specs.Outcomes.{viewRead, viewWrite}
+use Rattle.view.specs.Views.{madeBy, plainView, protectedView, viewedRefusal}
+use Rattle.view.specs.declared.View.{View}
 use Rattle.answers.specs.declared.Answer.the-variants as access
 use Rattle.view.specs.declared.Viewed.the-variants.{Made}
 use Rattle.guarantees.specs.Boundary.{ZeroAccepts}
@@ -70,9 +74,14 @@ unfolding plainView viewedRefusal
 plain-view-zero layout = zero-test (sound layout) _ _ (λ view. refl) (omega arith) (zero-accepted _ (λ view. refl))
 
 pub protected-view-zero : (outer hiddenLayout : Layout) → ZeroAccepts viewedRefusal Made (protectedView outer hiddenLayout)
-unfolding protectedView viewedRefusal
-protected-view-zero outer hiddenLayout =
-    zero-tests (sound outer && sound hiddenLayout) (nests outer hiddenLayout) _ _ _ (λ view. refl) (omega arith) (omega arith)
+unfolding protectedView pairAnswer madeBy viewedRefusal
+protected-view-zero outer hiddenLayout = go (sound outer && sound hiddenLayout) (nests outer hiddenLayout) _
+  where
+    go : (first second : Bool) (view : View)
+        → ZeroAccepts viewedRefusal Made (madeBy (cond first (cond second access.Accepted (access.Refused 12)) (access.Refused 11)) view)
+    go true true view = zero-accepted _ (λ view. refl)
+    go true false view = zero-refused _ (λ view. refl) (omega arith)
+    go false second view = zero-refused _ (λ view. refl) (omega arith)
 
 module _ (candidates codes : List ℕ) (hostSize : ℕ) where
   -- what the search finds is never refused by 0: a line's number is at least 5
@@ -95,11 +104,21 @@ module _ (candidates codes : List ℕ) (hostSize : ℕ) where
   unfolding opened
   opened-zero = opened-zero-by (lengths-reflects candidates codes) (codes-reflects codes) (host-size-reflects hostSize)
 
--- an answer by its number
-pub answered-zero : (n : ℕ) → (n ≡ 0) ↔ (answered n ≡ access.Accepted)
-unfolding answered
-answered-zero n = (λ e. rw e, go (eqb n 0) (eqb-true n 0))
-  where
-    go : (test : Bool) → (test ≡ true → n ≡ 0) → cond test access.Accepted (access.Refused n) ≡ access.Accepted → n ≡ 0
-    go true f e = f refl
-    go false f e = let z : _≡_ {A = ℕ} 0 1 = cc in absurd (omega arith)
+-- an answer to a read or a write
+abbrev ZeroTells : Answer → Type 0
+ZeroTells answer = (answerRefusal answer ≡ 0) ↔ (answer ≡ access.Accepted)
+
+accepted-tells : ZeroTells access.Accepted
+unfolding answerRefusal
+accepted-tells = (λ e. refl, λ e. refl)
+
+refused-tells : (number : ℕ) → ZeroTells (access.Refused (suc number))
+unfolding answerRefusal
+refused-tells number = (λ e. absurd (omega arith), refused-accepted (suc number))
+
+pub read-zero : (view : View) (imageSize first count bufferSize : ℕ) → ZeroTells (viewRead view imageSize first count bufferSize)
+read-zero view = read-holds ZeroTells accepted-tells refused-tells (view .layout) (view .protection)
+
+pub write-zero : (view : View) (imageSize first count bufferSize : ℕ) → ZeroTells (viewWrite view imageSize first count bufferSize)
+write-zero view imageSize first count bufferSize =
+    write-holds ZeroTells accepted-tells refused-tells (view .layout) (view .protection) imageSize first count bufferSize (view .locked)

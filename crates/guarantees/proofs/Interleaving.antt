@@ -4,7 +4,8 @@ use mathlib.Core.Path.{ap}
 use mathlib.Core.Bool.{Bool}
 use mathlib.Core.List.{List}
 use Rattle.layout.specs.declared.Layout.{Layout}
-use Rattle.view.specs.declared.Protection.the-variants.{Unprotected}
+use Rattle.answers.specs.Answers.{isAccepted}
+use Rattle.protection.specs.declared.Protection.the-variants.{Unprotected}
 use Rattle.view.specs.declared.View.{View}
 use Rattle.model.specs.Model.{State, stateWith}
 use Rattle.model.specs.Sides.{Side, outer, hidden, Both, eachWith, OnSide, sided}
@@ -13,7 +14,7 @@ use Rattle.model.proofs.Lawful.{sided-lawful}
 use Rattle.model.proofs.RunLaws.{Models, run-exists, run-agrees, run-last-write, run-reads-left}
 use Rattle.model.proofs.SideLaws.{sided-models, on-side-exists}
 use Rattle.guarantees.specs.Interleaving.{Step, sideLayout, sideProtection, sideView, sideRules, rules, Interleaved, Demand3}
-use Rattle.guarantees.specs.ReferenceModel.{isWrite, isAccepted, inRange, viewRules}
+use Rattle.guarantees.specs.ReferenceModel.{isWrite, inRange, viewRules}
 use Rattle.guarantees.specs.Table.{Call}
 use Rattle.guarantees.specs.Views.{area}
 use Rattle.guarantees.proofs.NestLaws.{Nest, plain-sound, protecting-sound}

@@ -1,15 +1,13 @@
 -- Two sound layouts that nest: the test for it, and that both views made from them are sound, whatever their locks.
 -- Assumes nothing.
 use native.Mathlib.Omega.{arith}
-use mathlib.Core.Path.{_≡_}
-use mathlib.Core.Bool.{Bool, true}
+use mathlib.Core.Bool.{Bool}
 use Rattle.layout.specs.Rules.{standard, hidden}
 use Rattle.layout.specs.declared.Layout.{Layout}
-use Rattle.view.specs.Views.{areaEnd, soundView, nests}
+use Rattle.protection.specs.Protection.{areaEnd, nests}
 use Rattle.guarantees.specs.SectorMap.{Sound}
 use Rattle.guarantees.specs.Views.{plain, protecting, SoundRange, SoundView, Nested}
-use Rattle.guarantees.proofs.Reflects.{Reflects, is-true, reflects-map, reflects-and, reflects-eqb, reflects-leb}
-use Rattle.guarantees.proofs.ViewLaws.{view-reflects}
+use Rattle.guarantees.proofs.Reflects.{Reflects, reflects-map, reflects-and, reflects-eqb, reflects-leb}
 
 -- two sound layouts that nest
 pub record Nest (outer hiddenLayout : Layout) : Type 0 where
@@ -34,9 +32,6 @@ module _ (layout : Layout) (locked : Bool) (s : Sound layout) where
   unfolding SoundRange
   plain-sound = record { layoutSound = s; rangeSound = tt }
 
-  pub sound-view-plain : soundView (plain layout locked) ≡ true
-  sound-view-plain = is-true (view-reflects (plain layout locked)) plain-sound
-
 module _ (outer hiddenLayout : Layout) (locked : Bool) (n : Nest outer hiddenLayout) where
   pub protecting-sound : SoundView (protecting outer hiddenLayout locked)
   unfolding SoundRange
@@ -54,6 +49,3 @@ module _ (outer hiddenLayout : Layout) (locked : Bool) (n : Nest outer hiddenLay
               ends = n .nested .ends;
             };
       }
-
-  pub sound-view-protected : soundView (protecting outer hiddenLayout locked) ≡ true
-  sound-view-protected = is-true (view-reflects (protecting outer hiddenLayout locked)) protecting-sound

@@ -1,27 +1,32 @@
--- An extent's bytes touch the protected range exactly where one of its host sectors lies there.
+-- An extent shares a sector with the protected ones exactly where one of its host sectors lies in the protected range.
 -- Assumes nothing.
-use Prim.Native.Nat.{ℕ, zero, suc, _+_, _*_, _%_, _≤_, _<_}
+use Prim.Native.Nat.{ℕ, zero, suc, _+_, _-_, _*_, _/_, _%_, _≤_, _<_}
 use native.Mathlib.Omega.{arith}
-use mathlib.Core.Path.{_≡_, refl, sym}
-use mathlib.Core.Bool.{Bool, true, false, _||_, true≢false}
+use mathlib.Core.Path.{_≡_, refl, ap}
+use mathlib.Core.Bool.{Bool, true, false, not, _||_, true≢false}
 use mathlib.Core.List.{List, [], _∷_}
+use lib.Dec.{leb}
+use borrow.Author.Tests.{leb-true, leb-false}
+use Rattle.access.specs.Judging.{apartAnswer, lockAnswer}
+use Rattle.answers.specs.declared.Answer.{Answer}
+use Rattle.answers.specs.declared.Answer.the-variants.{Accepted}
+use Rattle.extent.specs.Extents.{overlap}
+use Rattle.extent.specs.declared.Extent.{Extent}
+use Rattle.extent.specs.declared.Overlap.{Overlap}
+use Rattle.extent.proofs.OverlapLaws.{In, Shared, none, least, overlap-shared}
 use Rattle.layout.specs.declared.Layout.{Layout}
 use Rattle.sector_map.specs.SectorMap.{sectors, firstSector}
-use Rattle.view.specs.Access.{extentStart, touches}
-use Rattle.view.specs.declared.Protection.{Protection}
-use Rattle.view.specs.declared.Protection.the-variants.{Unprotected, Protected}
+use Rattle.protection.specs.Protection.{protectedExtent}
+use Rattle.protection.specs.declared.Protection.{Protection}
+use Rattle.protection.specs.declared.Protection.the-variants.{Unprotected, Protected}
 use Rattle.model.proofs.Lawful.{Every}
 use Rattle.guarantees.specs.ReferenceModel.{inRange, anyInRange}
 use Rattle.guarantees.specs.SectorMap.{Sound}
-use Rattle.guarantees.specs.Table.{covers}
-use Rattle.guarantees.specs.Views.{SoundRange}
+use Rattle.guarantees.specs.Table.{writes, check, later, covers}
+use Rattle.guarantees.specs.Views.{ProtectedRange, SoundRange}
 use Rattle.guarantees.proofs.CoversLaws.{consecutive}
 use Rattle.guarantees.proofs.ExtentLaws.{covers-extent}
-use Rattle.guarantees.proofs.Reflects.{Reflects, holds, fails, is-true, is-false, reflects-map, reflects-and, reflects-leb}
-
-reflects-same : {P : Type 0} {a b : Bool} → Reflects P a → Reflects P b → a ≡ b
-reflects-same (holds p) r = sym (is-true r p)
-reflects-same (fails f) r = sym (is-false r f)
+use Rattle.guarantees.proofs.Reflects.{Reflects, holds, fails, reflects-and, reflects-leb}
 
 or-false : (a b : Bool) → (a || b) ≡ false → (a ≡ false) × (b ≡ false)
 or-false true b e = absurd (true≢false e)
@@ -30,9 +35,9 @@ or-false false b e = (refl, e)
 -- where no sector lies in the range, each does not
 pub each-outside : (protection : Protection) (hosts : List ℕ) → anyInRange protection hosts ≡ false → Every (λ host. inRange protection host ≡ false) hosts
 unfolding anyInRange
-each-outside protection [] none = tt
-each-outside protection (host ∷ hosts) none =
-    let both = or-false (inRange protection host) (anyInRange protection hosts) none in (both .0, each-outside protection hosts (both .1))
+each-outside protection [] outside = tt
+each-outside protection (host ∷ hosts) outside =
+    let both = or-false (inRange protection host) (anyInRange protection hosts) outside in (both .0, each-outside protection hosts (both .1))
 
 none-in-range : (hosts : List ℕ) → anyInRange Unprotected hosts ≡ false
 unfolding anyInRange inRange
@@ -60,13 +65,69 @@ module _ (first end : ℕ) (firstMultiple : first % 512 ≡ 0) (endMultiple : en
       go (fails f) (fails g) (holds d) = fails (λ m. f (omega arith))
       go (fails f) (fails g) (fails d) = fails (λ m. g (omega arith))
 
-pub touches-range : (layout : Layout) (protection : Protection) → Sound layout → SoundRange layout protection → (u n : ℕ) → u + n ≤ sectors layout
-    → touches layout protection u n ≡ anyInRange protection (covers layout u n)
-unfolding touches SoundRange extentStart firstSector
-touches-range layout Unprotected s r u n inside = sym (none-in-range (covers layout u n))
-touches-range layout (Protected first end) s r u n inside =
-    rw (covers-extent layout s u n inside)
-    (reflects-same
-    (reflects-map (λ p. omega arith) (λ m. omega arith)
-    (reflects-and (reflects-and (reflects-leb 1 n) (reflects-leb (suc (extentStart layout u)) end)) (reflects-leb (suc first) (extentStart layout (u + n)))))
-    (any-in-range-reflects first end (r .firstMultiple) (r .endMultiple) (r .notEmpty) (firstSector layout + u) n))
+-- a write's answer past its lock by any test that tells whether two extents share a sector
+by-shared : {P : Type 0} {touch : Bool} {a b : Extent} {shared : Overlap} → Shared a b shared → Reflects P touch
+    → (P → (sector : ℕ) × In a sector × In b sector) → ((sector : ℕ) → In a sector → In b sector → P)
+    → apartAnswer shared ≡ check 18 (not touch) Accepted
+unfolding apartAnswer
+by-shared (none f) (holds p) both meets = let sector = both p in absurd (f (sector .0) (sector .1) (sector .2))
+by-shared (none f) (fails g) both meets = refl
+by-shared (least sector i j l) (holds p) both meets = refl
+by-shared (least sector i j l) (fails g) both meets = absurd (g (meets sector i j))
+
+-- two runs of sectors, neither of which ends before the other starts
+sector-of-both : (o first count u n : ℕ) → 0 < n → o + u < o + first + count → o + first < o + u + n → 0 < count
+    → (sector : ℕ) × (u ≤ sector) × (sector < u + n) × (first ≤ sector) × (sector < first + count)
+sector-of-both o first count u n some before behind other = go (leb first u) refl
+  where
+    go : (b : Bool) → leb first u ≡ b → (sector : ℕ) × (u ≤ sector) × (sector < u + n) × (first ≤ sector) × (sector < first + count)
+    go true e = let h = leb-true first u e in (u, omega arith, omega arith, h, omega arith)
+    go false e = let h = leb-false first u e in (first, omega arith, omega arith, omega arith, omega arith)
+
+module _ (layout : Layout) (s : Sound layout) (u n : ℕ) where
+  abbrev extent : Extent
+  extent = record { first = u; count = n }
+
+  module _ (first end : ℕ) (r : ProtectedRange layout first end) where
+    abbrev start : ℕ
+    start = (first - layout .«data_start») / 512
+
+    abbrev range : Extent
+    range = record { first = start; count = (end - first) / 512 }
+
+    abbrev Met : Type 0
+    Met = Meets first end (r .firstMultiple) (r .endMultiple) (r .notEmpty) (firstSector layout + u) n
+
+    met-both : Met → (sector : ℕ) × In extent sector × In range sector
+    unfolding firstSector
+    met-both m =
+        let o = layout .«data_start» / 512 in
+        let count = (end - first) / 512 in
+        let starts : first ≡ (o + start) * 512 = omega (arith, s .area .startMultiple, r .firstMultiple, r .starts) in
+        let ends : end ≡ (o + start + count) * 512 = omega (arith, starts, r .firstMultiple, r .endMultiple, r .notEmpty) in
+        let sector = sector-of-both o start count u n (m .some) (omega (arith, ends, m .before)) (omega (arith, starts, m .behind)) (omega (arith, starts, ends, r .notEmpty)) in
+        (sector .0, record { starts = sector .1; ends = sector .2 }, record { starts = sector .3; ends = sector .4 })
+
+    both-met : (sector : ℕ) → In extent sector → In range sector → Met
+    unfolding firstSector
+    both-met sector i j = record { some = omega arith; before = omega arith; behind = omega arith }
+
+  -- an extent with a protected sector is one with a host sector in the range
+  apart-range : (protection : Protection) → SoundRange layout protection → u + n ≤ sectors layout
+      → apartAnswer (overlap extent (protectedExtent layout protection)) ≡ check 18 (not (anyInRange protection (covers layout u n))) Accepted
+  unfolding SoundRange protectedExtent
+  apart-range Unprotected r inside =
+      rw (none-in-range (covers layout u n))
+      (by-shared (overlap-shared extent (record { first = 0; count = 0 })) (fails (λ (e : ⊥). e)) (λ e. absurd e)
+      (λ sector i j. omega (arith, j .ends)))
+  apart-range (Protected first end) r inside =
+      rw (covers-extent layout s u n inside)
+      (by-shared (overlap-shared extent (range first end r))
+      (any-in-range-reflects first end (r .firstMultiple) (r .endMultiple) (r .notEmpty) (firstSector layout + u) n)
+      (met-both first end r) (both-met first end r))
+
+  -- so the later checks of a write are the table's
+  pub lock-range : (protection : Protection) (locked : Bool) → SoundRange layout protection → u + n ≤ sectors layout
+      → lockAnswer layout protection locked u n ≡ later writes locked (anyInRange protection (covers layout u n))
+  unfolding lockAnswer later
+  lock-range protection locked r inside = ap (λ (answer : Answer). check 17 (not locked) answer) (apart-range protection r inside)

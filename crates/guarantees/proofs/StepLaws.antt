@@ -7,8 +7,8 @@ use mathlib.Core.List.{List}
 use lib.ListN.{length}
 use Rattle.answers.specs.declared.Answer.{Answer}
 use Rattle.layout.specs.declared.Layout.{Layout}
-use Rattle.view.specs.Access.{readNumber, writeNumber, answered, after}
-use Rattle.view.specs.declared.Protection.{Protection}
+use Rattle.view.specs.Outcomes.{viewRead, viewWrite, after}
+use Rattle.protection.specs.declared.Protection.{Protection}
 use Rattle.view.specs.declared.View.{View}
 use Rattle.model.specs.Model.{State, stateWith, Reply, judged, bufferAfter, imageAfter, reply, next}
 use Rattle.model.proofs.RunLaws.{Agrees, Models}
@@ -64,12 +64,12 @@ step-exists state call = go (call .operation) (call .first) (call .count) (call 
     go : (operation : Operation) (first count : ℕ) (buffer : List ℕ)
         → (given : Reply Answer) × (after : State View) × Keeps operation state first count buffer given after
     go reads first count buffer = (
-      record { answer = answered (readNumber (state .held) (length (state .image)) first count (length buffer)); buffer = _ },
+      record { answer = viewRead (state .held) (length (state .image)) first count (length buffer); buffer = _ },
       state,
       (record { same = refl; answers = refl; fills = refl }, refl),
     )
     go writes first count buffer = (
-      record { answer = answered (writeNumber (state .held) (length (state .image)) first count (length buffer)); buffer = buffer },
-      record { image = _; held = after (state .held) (writeNumber (state .held) (length (state .image)) first count (length buffer)) },
+      record { answer = viewWrite (state .held) (length (state .image)) first count (length buffer); buffer = buffer },
+      record { image = _; held = after (state .held) (viewWrite (state .held) (length (state .image)) first count (length buffer)) },
       (record { back = refl; answers = refl; writes = refl }, refl),
     )

@@ -1,21 +1,20 @@
--- The table of refusals: what an acceptance says of a call, and that the numbers which the contracts give are its answers.
+-- The table of refusals: what an acceptance says of a call, and what an answer leaves of the lock.
 -- Assumes nothing.
 use Prim.Native.Nat.{ℕ, _+_, _*_, _/_, _≤_}
-use native.Mathlib.Omega.{arith}
 use mathlib.Core.Path.{_≡_, refl, sym, ap}
-use mathlib.Core.Bool.{Bool, true, false, not, cond, true≢false}
+use mathlib.Core.Bool.{Bool, true, false, cond, true≢false}
 use mathlib.Core.List.{List}
 use lib.Dec.{leb, eqb}
 use lib.ListN.{length}
 use borrow.Author.Tests.{leb-true, eqb-true}
-use Rattle.answers.specs.Answers.{line}
+use Rattle.access.specs.Judging.{closesLock, lockedAfter}
+use Rattle.answers.specs.Answers.{isAccepted}
 use Rattle.answers.specs.declared.Answer.{Answer}
 use Rattle.answers.specs.declared.Answer.the-variants.{Accepted, Refused}
 use Rattle.layout.specs.declared.Layout.{Layout}
 use Rattle.sector_map.specs.SectorMap.{sectors}
-use Rattle.view.specs.Access.{answered}
-use Rattle.model.proofs.Cases.{test-cases, eqb-cases}
-use Rattle.guarantees.specs.ReferenceModel.{isWrite, isAccepted, lockLeft}
+use Rattle.model.proofs.Cases.{test-cases}
+use Rattle.guarantees.specs.ReferenceModel.{isWrite, lockLeft}
 use Rattle.guarantees.specs.Table.{Operation, reads, writes, Call, check, later, tabled}
 
 -- an extent inside a layout, with an image and a buffer of the right lengths
@@ -79,33 +78,8 @@ read-lock layout first count buffer locked touch imageSize =
     in-order-lock (eqb imageSize (layout .«host_size»)) (leb count 128) (eqb (length buffer) (count * 512))
     (leb (first + count) (layout .«data_size» / 512)) locked
 
--- numbers in order are answers in order
-pub answered-in-order : (a b c d : Bool) (rest : ℕ) → answered (line 13 a (line 14 b (line 15 c (line 16 d rest)))) ≡ inOrder a b c d (answered rest)
-unfolding answered
-answered-in-order true true true true rest = refl
-answered-in-order true true true false rest = refl
-answered-in-order true true false d rest = refl
-answered-in-order true false c d rest = refl
-answered-in-order false b c d rest = refl
-
-pub answered-later : (locked touch : Bool) → answered (line 17 (not locked) (line 18 (not touch) 0)) ≡ later writes locked touch
-unfolding answered later
-answered-later true touch = refl
-answered-later false true = refl
-answered-later false false = refl
-
--- .. and what number 0 lets pass
-pub in-order-zero : (s a b c d : Bool) (rest : ℕ) → line 11 s (line 13 a (line 14 b (line 15 c (line 16 d rest)))) ≡ 0
-    → (s ≡ true) × (a ≡ true) × (c ≡ true) × (d ≡ true)
-in-order-zero true true true true true rest e = (refl, refl, refl, refl)
-in-order-zero true true true true false rest e = absurd (omega arith)
-in-order-zero true true true false d rest e = absurd (omega arith)
-in-order-zero true true false c d rest e = absurd (omega arith)
-in-order-zero true false b c d rest e = absurd (omega arith)
-in-order-zero false a b c d rest e = absurd (omega arith)
-
-pub lock-answered : (number : ℕ) (locked : Bool) → lockLeft (answered number) locked ≡ cond (eqb number 18) true locked
-unfolding answered lockLeft
-lock-answered number locked =
-    eqb-cases (λ b. lockLeft (cond b Accepted (Refused number)) locked ≡ cond (eqb number 18) true locked) number 0
-    (λ zero. rw zero) (λ other. refl)
+-- the table's lock is that of a view after a write
+pub lock-left : (answer : Answer) (locked : Bool) → lockLeft answer locked ≡ lockedAfter locked answer
+unfolding lockLeft lockedAfter closesLock
+lock-left Accepted locked = refl
+lock-left (Refused number) locked = refl

@@ -4,9 +4,9 @@ use Prim.Native.Nat.{suc, _%_}
 use native.Mathlib.Omega.{arith}
 use Rattle.layout.specs.Rules.{standard}
 use Rattle.layout.specs.declared.Layout.{Layout}
-use Rattle.view.specs.Views.{areaEnd, protectionRule, soundView}
-use Rattle.view.specs.declared.Protection.{Protection}
-use Rattle.view.specs.declared.Protection.the-variants.{Unprotected, Protected}
+use Rattle.protection.specs.Protection.{areaEnd, protectionRule, soundProtection}
+use Rattle.protection.specs.declared.Protection.{Protection}
+use Rattle.protection.specs.declared.Protection.the-variants.{Unprotected, Protected}
 use Rattle.view.specs.declared.View.{View}
 use Rattle.guarantees.specs.Views.{SoundRange, SoundView}
 use Rattle.guarantees.proofs.Reflects.{Reflects, holds, reflects-map, reflects-and, reflects-eqb, reflects-leb}
@@ -35,8 +35,8 @@ range-reflects layout (Protected first end) =
     (reflects-leb (layout .«data_start») first))
     (reflects-leb end (areaEnd layout)))
 
-pub view-reflects : (view : View) → Reflects (SoundView view) (soundView view)
-unfolding soundView
+pub view-reflects : (view : View) → Reflects (SoundView view) (soundProtection (view .layout) (view .protection))
+unfolding soundProtection
 view-reflects view =
     reflects-map (λ p. record { layoutSound = p .0; rangeSound = p .1 }) (λ s. (s .layoutSound, s .rangeSound))
     (reflects-and (sound-reflects (view .layout)) (range-reflects (view .layout) (view .protection)))

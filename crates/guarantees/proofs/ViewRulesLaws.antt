@@ -6,7 +6,7 @@ use mathlib.Core.Bool.{true}
 use borrow.Author.Tests.{le-leb, lt-ltb}
 use Rattle.layout.specs.declared.Layout.{Layout}
 use Rattle.sector_map.specs.SectorMap.{sectors, firstSector}
-use Rattle.view.specs.declared.Protection.{Protection}
+use Rattle.protection.specs.declared.Protection.{Protection}
 use Rattle.model.specs.Sides.{Side, outer, hidden}
 use Rattle.model.proofs.Lawful.{Every, Fitting, Lawful}
 use Rattle.model.proofs.Sameness.{Apart}

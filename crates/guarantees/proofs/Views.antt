@@ -1,14 +1,15 @@
 -- Views are made from sound layouts that nest, and from no others, and they are sound.
 -- Assumes nothing.
 use Rattle.layout.specs.declared.Layout.{Layout}
-use Rattle.view.specs.Views.{areaEnd, plainOf, protectedOf, plainView, protectedView}
+use Rattle.protection.specs.Protection.{areaEnd, pairAnswer}
+use Rattle.view.specs.Views.{plainOf, protectedOf, madeBy, plainView, protectedView}
 use Rattle.guarantees.specs.Views.{MakesViews}
 use Rattle.guarantees.proofs.Reflects.{is-true, is-false, reflects-and}
 use Rattle.guarantees.proofs.SoundLaws.{sound-reflects}
 use Rattle.guarantees.proofs.NestLaws.{nests-reflects, plain-sound, protecting-sound}
 
 pub makes-views : (outer hiddenLayout : Layout) → MakesViews outer hiddenLayout
-unfolding plainView protectedView plainOf protectedOf areaEnd
+unfolding plainView protectedView plainOf protectedOf madeBy pairAnswer areaEnd
 makes-views outer hiddenLayout =
     record {
       plainMade = λ s. simp (is-true (sound-reflects outer) s);

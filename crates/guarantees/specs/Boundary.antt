@@ -15,12 +15,12 @@ use Rattle.locations.specs.Locations.{located}
 use Rattle.opening.specs.Opening.{opened}
 use Rattle.sector_map.specs.SectorMap.{hostSector, userSector, tweakOf}
 use Rattle.answers.specs.declared.Numbered.the-variants as numbered
-use Rattle.view.specs.Access.{readNumber, writeNumber, ReadPost, WritePost}
+use Rattle.view.specs.Outcomes.{viewRead, viewWrite, ReadPost, WritePost}
 use Rattle.view.specs.Views.{plainView, protectedView, viewedRefusal}
 use Rattle.answers.specs.declared.Answer.the-variants as access
 use Rattle.view.specs.declared.Outcome.{Outcome}
-use Rattle.view.specs.declared.Protection.{Protection}
-use Rattle.view.specs.declared.Protection.the-variants.{Unprotected, Protected}
+use Rattle.protection.specs.declared.Protection.{Protection}
+use Rattle.protection.specs.declared.Protection.the-variants.{Unprotected, Protected}
 use Rattle.view.specs.declared.View.{View}
 use Rattle.view.specs.declared.Viewed.the-variants as making
 use Rattle.boundary_numbers.specs.BoundaryNumbers.{layoutFrom, viewFrom, numberedLeft, openedLeft, viewedLeft, blockLeft}
@@ -56,10 +56,10 @@ pub record ReturnsZero : Type 0 where
   pub protectedViews : (outer hiddenLayout : Layout) → ZeroAccepts viewedRefusal making.Made (protectedView outer hiddenLayout)
   pub reads : (view : View) (image : List ℕ) (first count : ℕ) (buffer filled : List ℕ) (outcome : Outcome)
       → ReadPost view image first count buffer outcome filled
-      → (readNumber view (length image) first count (length buffer) ≡ 0) ↔ (outcome .answer ≡ access.Accepted)
+      → (answerRefusal (viewRead view (length image) first count (length buffer)) ≡ 0) ↔ (outcome .answer ≡ access.Accepted)
   pub writes : (view : View) (image : List ℕ) (first count : ℕ) (buffer written : List ℕ) (outcome : Outcome)
       → WritePost view image first count buffer outcome written
-      → (writeNumber view (length image) first count (length buffer) ≡ 0) ↔ (outcome .answer ≡ access.Accepted)
+      → (answerRefusal (viewWrite view (length image) first count (length buffer)) ≡ 0) ↔ (outcome .answer ≡ access.Accepted)
 
 -- the order of the numbers that are passed: struct ondristela_layout and struct ondristela_view
 pub record OrdersNumbers (host kind magic version program start size candidate protected first end lock : ℕ) : Type 0 where

@@ -8,9 +8,9 @@ use mathlib.Core.List.{List, _∷_, _++_, map}
 use Rattle.answers.specs.declared.Answer.{Answer}
 use Rattle.answers.specs.declared.Answer.the-variants.{Accepted}
 use Rattle.layout.specs.declared.Layout.{Layout}
-use Rattle.view.specs.Access.{ReadPost, WritePost}
-use Rattle.view.specs.declared.Protection.{Protection}
-use Rattle.view.specs.declared.Protection.the-variants.{Unprotected}
+use Rattle.view.specs.Outcomes.{ReadPost, WritePost}
+use Rattle.protection.specs.declared.Protection.{Protection}
+use Rattle.protection.specs.declared.Protection.the-variants.{Unprotected}
 use Rattle.view.specs.declared.View.{View}
 use Rattle.model.specs.Model.{Rules, State, stateWith, Reply, replies, final, contents}
 use Rattle.model.specs.Runs.{Run}

@@ -4,21 +4,18 @@ use Prim.Native.Nat.{ℕ, _*_}
 use mathlib.Core.Bool.{Bool, true, false, _&&_, _||_, cond}
 use mathlib.Core.List.{List, [], _∷_}
 use lib.Dec.{leb, ltb, eqb}
+use Rattle.answers.specs.Answers.{isAccepted}
 use Rattle.answers.specs.declared.Answer.{Answer}
 use Rattle.answers.specs.declared.Answer.the-variants.{Accepted, Refused}
 use Rattle.layout.specs.declared.Layout.{Layout}
-use Rattle.view.specs.declared.Protection.{Protection}
-use Rattle.view.specs.declared.Protection.the-variants.{Unprotected, Protected}
+use Rattle.protection.specs.declared.Protection.{Protection}
+use Rattle.protection.specs.declared.Protection.the-variants.{Unprotected, Protected}
 use Rattle.model.specs.Model.{Rules}
 use Rattle.guarantees.specs.Table.{Operation, reads, writes, Call, tabled, covers}
 
 unfoldable pub isWrite : Operation → Bool
 isWrite reads = false
 isWrite writes = true
-
-unfoldable pub isAccepted : Answer → Bool
-isAccepted Accepted = true
-isAccepted (Refused number) = false
 
 -- the lock after an answer: 18 closes it
 unfoldable pub lockLeft : Answer → Bool → Bool

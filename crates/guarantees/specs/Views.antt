@@ -6,8 +6,8 @@ use mathlib.Core.Bool.{Bool, false}
 use Rattle.layout.specs.Rules.{standard, hidden}
 use Rattle.layout.specs.declared.Layout.{Layout}
 use Rattle.view.specs.Views.{plainView, protectedView}
-use Rattle.view.specs.declared.Protection.{Protection}
-use Rattle.view.specs.declared.Protection.the-variants.{Unprotected, Protected}
+use Rattle.protection.specs.declared.Protection.{Protection}
+use Rattle.protection.specs.declared.Protection.the-variants.{Unprotected, Protected}
 use Rattle.view.specs.declared.View.{View}
 use Rattle.view.specs.declared.Viewed.the-variants.{Made, Refused}
 use Rattle.guarantees.specs.SectorMap.{Sound}

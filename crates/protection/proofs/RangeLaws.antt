@@ -3,12 +3,18 @@
 use Prim.Native.Nat.{ℕ, _+_, _-_, _%_, _≤_, _<_}
 use native.Mathlib.Omega.{arith}
 use mathlib.Core.Path.{_≡_, sym, _∙_}
+use mathlib.Core.Bool.{true, _&&_}
 use lib.Dec.{leb}
 use borrow.Author.Tests.{eq-eqb, le-leb, lt-ltb}
+use Rattle.answers.specs.declared.Answer.{Answer}
+use Rattle.answers.specs.declared.Answer.the-variants.{Accepted}
+use Rattle.answers.proofs.AnswerLaws.{line-accepted}
 use Rattle.layout.specs.Rules.{sectorBytes, standard}
 use Rattle.layout.specs.declared.Layout.{Layout}
+use Rattle.layout.specs.Soundness.{sound}
+use Rattle.layout.proofs.RuleLaws.{and-true-right}
 use Rattle.layout.proofs.TestLaws.{leb-iff}
-use Rattle.protection.specs.Protection.{areaEnd, protectionRule}
+use Rattle.protection.specs.Protection.{areaEnd, protectionRule, pairAnswer}
 use Rattle.protection.specs.declared.Protection.the-variants.{Protected}
 
 pub leb-sub : (end start size : ℕ) → start ≤ end → leb (end - start) size ≡ leb end (start + size)
@@ -26,3 +32,10 @@ unfolding protectionRule areaEnd
 range-by-end layout first end k f e some starts =
     leb-sub end (layout .«data_start») (layout .«data_size») (omega arith)
     ∙ sym (simp (eq-eqb _ _ k, eq-eqb _ _ f, eq-eqb _ _ e, lt-ltb _ _ some, le-leb _ _ starts))
+
+-- a pair that can be protected has a sound second layout
+pub pair-hidden-sound : (outer hiddenLayout : Layout) {answer : Answer} → answer ≡ pairAnswer outer hiddenLayout → answer ≡ Accepted
+    → sound hiddenLayout ≡ true
+unfolding pairAnswer
+pair-hidden-sound outer hiddenLayout checked e =
+    and-true-right (sound outer) (sound hiddenLayout) (line-accepted 11 (sound outer && sound hiddenLayout) _ (sym checked ∙ e) .0)

@@ -12,8 +12,12 @@ use Rattle.header.specs.Header.{versionRule, reservedRule, flagsRule, sectorSiz
 use Rattle.locations.specs.Locations.{locations, locationOf, codeRule}
 use Rattle.opening.specs.Opening.{lengthsRule, codesRule, candidateAt, judgements, further, searched, opened}
 use Rattle.sector_map.specs.SectorMap.{sectors, firstSector, hostSector, userSector, tweakNumber, blockOf, tweakOf}
-use Rattle.view.specs.Access.{checked, extentStart, touches, readNumber, writeNumber, after}
-use Rattle.view.specs.Views.{areaEnd, protectionRule, soundView, plainOf, protectedOf, nests, plainView, protectedView}
+use Rattle.access.specs.Judging.{checked, apartAnswer, lockAnswer, readAnswer, writeAnswer, closesLock, lockedAfter}
+use Rattle.answers.specs.Answers.{answerRefusal}
+use Rattle.extent.specs.Extents.{has, larger, overlap}
+use Rattle.protection.specs.Protection.{areaEnd, protectionRule, soundProtection, protectedExtent, nests, pairAnswer}
+use Rattle.view.specs.Outcomes.{after}
+use Rattle.view.specs.Views.{plainOf, protectedOf, madeBy, plainView, protectedView}
 use Rattle.map_output.specs.Decimal.{digits, decimal}
 use Rattle.map_output.specs.MapOutput.{line, numberLine, eitherLine, magicLine, kindLine, headerLines, areaLines, sectorLines, lastSector, layoutLines}
 use Rattle.guarantees.specs.MapProgram.{letters}
@@ -27,8 +31,8 @@ unfolding cases opens toldOf headerWith fieldBytes bigEndianBytes volume volumeM
     versionRule reservedRule flagsRule sectorSizeRule hiddenSizeRule areaRule dataAreaRule sectorsRule placeRule
     crc32 crcFrom bitStep bitSteps bigEndian bigEndianFrom littleEndian
     hostSector userSector tweakNumber tweakOf blockOf sectors firstSector sound littleEndianBytes
-    onView writing reading leaving plainView protectedView plainOf protectedOf nests areaEnd protectionRule soundView
-    checked extentStart touches readNumber writeNumber after
+    onView writing reading leaving plainView protectedView plainOf protectedOf nests areaEnd protectionRule soundProtection
+    protectedExtent pairAnswer madeBy checked apartAnswer lockAnswer readAnswer writeAnswer closesLock lockedAfter after answerRefusal has larger overlap
 table = refl
 
 output : layoutLines volumeM

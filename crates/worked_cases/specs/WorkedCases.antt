@@ -6,6 +6,8 @@ use mathlib.Core.List.{List, [], _∷_, _++_, map}
 use lib.ListN.{replicate}
 use Rattle.numbers.specs.Numbers.{bigEndianBytes}
 use Rattle.crc32.specs.Crc32.{crc32}
+use Rattle.answers.specs.Answers.{answerRefusal}
+use Rattle.answers.specs.declared.Answer.{Answer}
 use Rattle.layout.specs.declared.Opened.{Opened}
 use Rattle.layout.specs.declared.Opened.the-variants.{Accepted, Refused}
 use Rattle.header.specs.Header.{trueMagic}
@@ -15,7 +17,7 @@ use Rattle.sector_map.specs.SectorMap.{hostSector, userSector, tweakOf}
 use Rattle.answers.specs.declared.Numbered.{Numbered}
 use Rattle.answers.specs.declared.Numbered.the-variants as mapped
 use Rattle.sector_map.specs.declared.Tweak.{Tweak}
-use Rattle.view.specs.Access.{readNumber, writeNumber, after}
+use Rattle.view.specs.Outcomes.{viewRead, viewWrite, after}
 use Rattle.view.specs.Views.{plainView, protectedView}
 use Rattle.view.specs.declared.View.{View}
 use Rattle.view.specs.declared.Viewed.{Viewed}
@@ -77,16 +79,16 @@ unfoldable pub tweakTold : Tweak → List ℕ
 tweakTold tweak = mappedTold (tweak .number) ++ tweak .block
 
 -- the refusal number of a call on a view that was made, 0 for accepted
-unfoldable pub onView : Viewed → (View → ℕ) → List ℕ
-onView (viewed.Made view) number = number view ∷ []
-onView (viewed.Refused number) other = []
+unfoldable pub onView : Viewed → (View → Answer) → List ℕ
+onView (viewed.Made view) answer = answerRefusal (answer view) ∷ []
+onView (viewed.Refused number) answer = []
 
--- the number of a write, and of a read, on an image of M's size with a buffer of the extent's
-unfoldable pub writing : ℕ → ℕ → View → ℕ
-writing first count view = writeNumber view 1048576 first count (count * 512)
+-- the answer to a write, and to a read, on an image of M's size with a buffer of the extent's
+unfoldable pub writing : ℕ → ℕ → View → Answer
+writing first count view = viewWrite view 1048576 first count (count * 512)
 
-unfoldable pub reading : ℕ → ℕ → View → ℕ
-reading first count view = readNumber view 1048576 first count (count * 512)
+unfoldable pub reading : ℕ → ℕ → View → Answer
+reading first count view = viewRead view 1048576 first count (count * 512)
 
 -- the view that a write leaves
 unfoldable pub leaving : ℕ → ℕ → View → View

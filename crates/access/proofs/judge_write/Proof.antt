@@ -1,7 +1,7 @@
 -- `access::judge_write` meets its contract: the checks of every call, then those of a write.
 -- Assumes nothing.
 use borrow.Author.Needs.{needs}
-use mathlib.Core.Path.{sym, _∙_}
+use mathlib.Core.Path.{_∙_}
 use Rattle.access.specs.Judging.{writeAnswer}
 use Rattle.access.proofs.JudgingLaws.{read-passed, checked-passed, checked-refused}
 use Rattle.access.proofs.judge_write.Statement.{statement}
@@ -24,15 +24,14 @@ unfolding writeAnswer
 returns c =
     let accepted = c .before in
     let read = accepted .before .before in
-    let passed = read-passed _ _ _ _ _ _ (sym (read .judge-read .ensures) ∙ accepted .enum-told .given .1) in
-    c .judge-lock .ensures ∙ sym (checked-passed _ _ _ _ _ _ passed _)
+    let passed = read-passed _ _ _ _ _ _ (read .judge-read .ensures) (accepted .enum-told .given .1) in
+    c .judge-lock .ensures ∙ checked-passed _ _ _ _ _ _ passed _
 
 returns-2 : tie.Need-returns-2
 unfolding writeAnswer
 returns-2 c =
     let read = c .before .before in
-    let refused = c .enum-told2 .given .1 in
-    refused ∙ sym (checked-refused _ _ _ _ _ _ _ _ (sym (read .judge-read .ensures) ∙ refused))
+    checked-refused _ _ _ _ _ _ _ (read .judge-read .ensures) (c .enum-told2 .given .1)
 
 pub judge-write-spec : {M : Type 1} → statement M
 judge-write-spec =

@@ -1,8 +1,8 @@
 -- `access::read` meets its contract: a refusal changes nothing, and an accepted read fills the whole buffer.
 -- Assumes nothing.
 use borrow.Author.Needs.{needs}
-use mathlib.Core.Path.{refl, sym, _∙_}
-use Rattle.access.proofs.JudgingLaws.{Passed, read-passed, passed-moves}
+use mathlib.Core.Path.{_∙_}
+use Rattle.access.proofs.JudgingLaws.{read-passed, passed-moves}
 use Rattle.access.proofs.MovingLaws.{filled-accepted, filled-refused}
 use Rattle.access.proofs.read.Statement.{statement}
 use Rattle.access.proofs.read.Tie as tie
@@ -17,7 +17,7 @@ fill-requires : tie.Need-fill-requires
 fill-requires c κs =
     let accepted = c .before in
     let judged = accepted .before .before in
-    passed-moves _ _ _ _ _ _ (read-passed _ _ _ _ _ _ (sym (judged .judge-read .ensures) ∙ accepted .enum-told .given .1))
+    passed-moves _ _ _ _ _ _ (read-passed _ _ _ _ _ _ (judged .judge-read .ensures) (accepted .enum-told .given .1))
 
 enum-told-2 : tie.Need-enum-told-2
 enum-told-2 c = search needs
@@ -31,7 +31,7 @@ returns c =
     let accepted = fill .before .before in
     let judged = accepted .before .before in
     let e = accepted .enum-told .given .1 in
-    let passed = read-passed _ _ _ _ _ _ (sym (judged .judge-read .ensures) ∙ e) in
+    let passed = read-passed _ _ _ _ _ _ (judged .judge-read .ensures) e in
     (judged .judge-read .ensures, fill .fill .ensures ∙ filled-accepted _ _ _ _ _ _ e (passed .bufferWhole))
 
 returns-2 : tie.Need-returns-2

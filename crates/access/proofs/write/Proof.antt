@@ -1,7 +1,7 @@
 -- `access::write` meets its contract: a refusal changes no byte, and an accepted write only the extent's own.
 -- Assumes nothing.
 use borrow.Author.Needs.{needs}
-use mathlib.Core.Path.{refl, sym, _∙_}
+use mathlib.Core.Path.{_∙_}
 use Rattle.access.proofs.JudgingLaws.{write-passed, passed-moves}
 use Rattle.access.proofs.MovingLaws.{written-accepted, written-refused}
 use Rattle.access.proofs.write.Statement.{statement}
@@ -17,7 +17,7 @@ lay-requires : tie.Need-lay-requires
 lay-requires c κs =
     let accepted = c .before in
     let judged = accepted .before .before in
-    passed-moves _ _ _ _ _ _ (write-passed _ _ _ _ _ _ _ (sym (judged .judge-write .ensures) ∙ accepted .enum-told .given .1))
+    passed-moves _ _ _ _ _ _ (write-passed _ _ _ _ _ _ _ (judged .judge-write .ensures) (accepted .enum-told .given .1))
 
 enum-told-2 : tie.Need-enum-told-2
 enum-told-2 c = search needs

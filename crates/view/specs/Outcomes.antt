@@ -1,0 +1,44 @@
+-- What reads and writes on a view hand back and leave: the judgement and the moving of `access`, and the view. What the contracts of
+-- `View::read` and `View::write` cite. Assumes nothing.
+use Prim.Native.Nat.{ℕ}
+use mathlib.Core.Path.{_≡_}
+use mathlib.Core.List.{List}
+use lib.ListN.{length}
+use Rattle.answers.specs.declared.Answer.{Answer}
+use Rattle.access.specs.Judging.{readAnswer, writeAnswer, lockedAfter}
+use Rattle.access.specs.Moving.{filledBy, writtenBy}
+use Rattle.view.specs.declared.Outcome.{Outcome}
+use Rattle.view.specs.declared.View.{View}
+
+-- what a read of a view answers, for an image and a buffer of these lengths
+abbrev pub viewRead : View → ℕ → ℕ → ℕ → ℕ → Answer
+viewRead view = readAnswer (view .layout) (view .protection)
+
+-- what a write answers
+abbrev pub viewWrite : View → ℕ → ℕ → ℕ → ℕ → Answer
+viewWrite view = writeAnswer (view .layout) (view .protection) (view .locked)
+
+-- a view after a write: 18 closes its lock, and nothing else changes it
+unfoldable pub after : View → Answer → View
+after view answer = record { layout = view .layout; protection = view .protection; locked = lockedAfter (view .locked) answer }
+
+module _ (view : View) (image : List ℕ) (first count : ℕ) (buffer : List ℕ) where
+  -- the buffer after a read
+  abbrev pub viewFilled : List ℕ
+  viewFilled = filledBy (viewRead view (length image) first count (length buffer)) (view .layout) image first count buffer
+
+  -- the image after a write
+  abbrev pub viewWritten : List ℕ
+  viewWritten = writtenBy (viewWrite view (length image) first count (length buffer)) (view .layout) image first buffer
+
+  -- what a read leaves: the same view, its answer, and the buffer
+  pub record ReadPost (outcome : Outcome) (filled : List ℕ) : Type 0 where
+    pub same : outcome .view ≡ view
+    pub answers : outcome .answer ≡ viewRead view (length image) first count (length buffer)
+    pub fills : filled ≡ viewFilled
+
+  -- what a write leaves: the view, locked by 18, its answer, and the image
+  pub record WritePost (outcome : Outcome) (written : List ℕ) : Type 0 where
+    pub back : outcome .view ≡ after view (viewWrite view (length image) first count (length buffer))
+    pub answers : outcome .answer ≡ viewWrite view (length image) first count (length buffer)
+    pub writes : written ≡ viewWritten
