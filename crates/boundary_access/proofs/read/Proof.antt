@@ -1,7 +1,7 @@
 -- `boundary_access::read` meets its contract: the answer of the view that the numbers tell, as a number.
 -- Assumes nothing.
 use borrow.Author.Needs.{needs}
-use Rattle.boundary_access.proofs.CallLaws.{read-call}
+use Rattle.boundary_access.proofs.ToldViewLaws.{read-call}
 use Rattle.boundary_access.proofs.read.Statement.{statement}
 use Rattle.boundary_access.proofs.read.Tie as tie
 

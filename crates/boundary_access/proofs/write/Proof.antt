@@ -2,7 +2,7 @@
 -- Assumes nothing.
 use mathlib.Core.Path.{_∙_}
 use borrow.Author.Needs.{needs}
-use Rattle.boundary_access.proofs.CallLaws.{write-call}
+use Rattle.boundary_access.proofs.ToldViewLaws.{write-call}
 use Rattle.boundary_access.proofs.write.Statement.{statement}
 use Rattle.boundary_access.proofs.write.Tie as tie
 
