@@ -74,7 +74,8 @@ written-back bytes (suc left) number h k =
     let e : suc left - 1 ≡ left = omega arith in
     let inside : left < length (set bytes left (number % 256)) = lt-length-set bytes left (number % 256) k in
     rw (e, drop-cons (set bytes left (number % 256)) left 0 inside, getD-set-same bytes left (number % 256) 0 k)
-    (rw (drop-set-lt (suc left) bytes left (number % 256) (omega arith)) (append-snoc (bigEndianBytes left (number / 256)) (number % 256) (drop (suc left) bytes)))
+    (rw (drop-set-lt (suc left) bytes left (number % 256) (omega arith))
+    (append-snoc (bigEndianBytes left (number / 256)) (number % 256) (drop (suc left) bytes)))
 
 pub written-front : (bytes : List ℕ) (left number : ℕ) → left ≤ 0 → bigEndianBytes left number ++ drop left bytes ≡ bytes
 unfolding bigEndianBytes

@@ -41,12 +41,13 @@ loop-less : tie.Need-loop-less Inv-loop μ-loop
 loop-less c = search needs
 
 loop-again : tie.Need-loop-again Inv-loop μ-loop
-loop-again c = (
-  search needs,
-  byte-step _ _ (c .before .before .before .before .loop .i) (c .before .wide .result) (c .before .before .before .before .loop .crc)
-      (c .before .before .before .before .before .before .pre) (search needs) (c .before .wide .ensures .0)
-      ∙ c .before .before .before .before .loop .inv .1,
-)
+loop-again c =
+    let byte = c .before in
+    let at = byte .before .before .before in (
+      search needs,
+      byte-step _ _ (at .loop .i) (byte .wide .result) (at .loop .crc) (at .before .before .pre) (search needs) (byte .wide .ensures .0)
+          ∙ at .loop .inv .1,
+    )
 
 returns : tie.Need-returns Inv-loop μ-loop
 returns c = sym (crc-from-end _ (c .before .loop .i) (c .before .loop .crc) (search needs)) ∙ c .before .loop .inv .1

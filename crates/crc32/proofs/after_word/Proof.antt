@@ -51,7 +51,10 @@ element-copy-out-result-4 : tie.Need-element-copy-out-result-4
 element-copy-out-result-4 c = search needs
 
 returns : tie.Need-returns
-returns c = rw (c .before .before .before .before .pre) (tables-word (c .before .before .before .before .args .mixed) (search needs))
+returns c =
+    let last = c .before .before in
+    let start = last .before .before in
+    rw (start .pre) (tables-word (start .args .mixed) (search needs))
 
 pub after-word-spec : {M : Type 1} → statement M
 after-word-spec =

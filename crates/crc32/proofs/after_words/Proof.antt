@@ -1,6 +1,7 @@
 -- `crc32::after_words` meets its contract. The loop's invariant: the register after what is left of the bytes is that after
 -- all of them, and what is left is whole words. Assumes nothing.
 use mathlib.Core.Path.{_≡_, sym, ap, _∙_}
+use mathlib.Core.List.{List}
 use Prim.Native.Nat.{ℕ, _+_, _≤_, _-_, _%_}
 use lib.Bits.{bitXor}
 use lib.ListN.{length, drop}
@@ -33,14 +34,17 @@ loop-less : tie.Need-loop-less Inv-loop μ-loop
 loop-less c = search needs
 
 loop-again : tie.Need-loop-again Inv-loop μ-loop
-loop-again c = (
-  search needs,
-  search needs,
-  ap (λ (x : ℕ). crcFrom x (drop (c .before .before .before .loop .i + 4) (c .before .before .before .before .before .args .bytes .now)))
-      (c .after-word .ensures ∙ ap (λ (w : ℕ). bitSteps 32 (bitXor w (c .before .before .before .loop .crc))) (c .before .word-at .ensures .0))
-      ∙ word-step _ (c .before .before .before .loop .i) (c .before .before .before .loop .crc) (search needs) (c .before .word-at .ensures .1)
-      ∙ c .before .before .before .loop .inv .2,
-)
+loop-again c =
+    let word = c .before in
+    let at = word .before .before in
+    let bytes : List ℕ = at .before .before .args .bytes .now in (
+      search needs,
+      search needs,
+      ap (λ (x : ℕ). crcFrom x (drop (at .loop .i + 4) bytes))
+          (c .after-word .ensures ∙ ap (λ (w : ℕ). bitSteps 32 (bitXor w (at .loop .crc))) (word .word-at .ensures .0))
+          ∙ word-step bytes (at .loop .i) (at .loop .crc) (search needs) (word .word-at .ensures .1)
+          ∙ at .loop .inv .2,
+    )
 
 returns : tie.Need-returns Inv-loop μ-loop
 returns c = sym (crc-from-end _ (c .before .loop .i) (c .before .loop .crc) (search needs)) ∙ c .before .loop .inv .2

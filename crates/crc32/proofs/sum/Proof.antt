@@ -37,11 +37,12 @@ after-words-requires c κs = search needs
 returns : tie.Need-returns
 unfolding crc32
 returns c =
-    let bytes : List ℕ = c .before .before .before .before .before .args .bytes .now in
+    let first = c .before .before in
+    let bytes : List ℕ = first .before .before .before .args .bytes .now in
     let odd : ℕ = length bytes % 4 in
     ap (bitXor 0xFFFFFFFF)
     (c .after-words .ensures
-    ∙ ap (λ (crc : ℕ). crcFrom crc (take (length bytes - odd) (drop odd bytes))) (c .before .before .after-bytes .ensures)
+    ∙ ap (λ (crc : ℕ). crcFrom crc (take (length bytes - odd) (drop odd bytes))) (first .after-bytes .ensures)
     ∙ crc-from-parts bytes odd 0xFFFFFFFF)
 
 pub sum-spec : {M : Type 1} → statement M

@@ -63,16 +63,16 @@ small h = subst (λ (n : ℕ). n < 256) (h .0) (h .1)
 
 returns : tie.Need-returns
 returns c =
-    let start = c .before .before .before .before .before .before .before .before .before in
-    rw (
-      c .before .before .before .before .before .before .wide .ensures .0,
-      c .before .before .before .before .wide2 .ensures .0,
-      c .before .before .wide3 .ensures .0,
-      c .wide4 .ensures .0,
-    ) (
-      word-of (start .args .bytes .now) (start .args .at) (start .pre),
-      bytes-of (start .args .bytes .now) (start .args .at) (start .pre) (small (c .before .before .before .before .before .before .wide .ensures)) (small (c .before .before .before .before .wide2 .ensures))
-          (small (c .before .before .wide3 .ensures)) (small (c .wide4 .ensures)),
+    let third = c .before .before in
+    let second = third .before .before in
+    let first = second .before .before in
+    let start = first .before .before .before in
+    let bytes = start .args .bytes .now in
+    let at = start .args .at in
+    rw (first .wide .ensures .0, second .wide2 .ensures .0, third .wide3 .ensures .0, c .wide4 .ensures .0) (
+      word-of bytes at (start .pre),
+      bytes-of bytes at (start .pre) (small (first .wide .ensures)) (small (second .wide2 .ensures)) (small (third .wide3 .ensures))
+          (small (c .wide4 .ensures)),
     )
 
 pub word-at-spec : {M : Type 1} → statement M

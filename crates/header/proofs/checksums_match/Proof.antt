@@ -14,11 +14,13 @@ use Rattle.header.proofs.checksums_match.Tie as tie
 
 -- the two checksums of the candidate
 summed : (c : tie.After-checksum-pair)
-    → let h = now (c .before .before .before .before .args .candidate) in
+    → let first = c .before .before in
+    let h = now (first .before .before .args .candidate) in
     c .checksum-pair .result ≡ crc32 (fieldPart keysField h) ∷ crc32 (fieldPart checkedField h) ∷ []
 summed c =
-    let h = now (c .before .before .before .before .args .candidate) in
-    let keys : now (c .before .before .field-bytes .result) ≡ fieldPart keysField h = c .before .before .field-bytes .ensures in
+    let first = c .before .before in
+    let h = now (first .before .before .args .candidate) in
+    let keys : now (first .field-bytes .result) ≡ fieldPart keysField h = first .field-bytes .ensures in
     let fields : now (c .before .field-bytes2 .result) ≡ fieldPart checkedField h = c .before .field-bytes2 .ensures in
     c .checksum-pair .ensures ∙ ap₂ (λ (a b : List ℕ). crc32 a ∷ crc32 b ∷ []) keys fields
 

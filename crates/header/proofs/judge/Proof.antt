@@ -14,14 +14,16 @@ no-header : (c : tie.Then1) → isHeader (now (c .before .before .args .candidat
 unfolding isHeader
 no-header c = simp (ne-eqb _ _ (c .if1 .taken))
 
-no-magic : (c : tie.Then2) → isHeader (now (c .before .before .before .before .args .candidate)) ≡ false
+no-magic : (c : tie.Then2)
+    → let length = c .before .before in
+    isHeader (now (length .before .before .args .candidate)) ≡ false
 unfolding isHeader
 no-magic c = simp (eq-eqb _ _ (c .before .before .if1 .left), ← c .before .magic-of .ensures, lt-leb _ _ (c .if2 .taken))
 
 -- a header as far as its length and its magic go: its checksums decide
 by-checksums : (c : tie.After-checksums-match)
-    → let h = now (c .before .before .before .before .before .args .candidate) in
-    isHeader h ≡ c .checksums-match .result
+    → let magic = c .before .before in
+    isHeader (now (magic .before .before .before .args .candidate)) ≡ c .checksums-match .result
 unfolding isHeader
 by-checksums c =
     let magic = c .before .before in

@@ -11,8 +11,8 @@ use Rattle.header.proofs.keeps_reserved.Tie as tie
 
 -- what the first field's test tells of the candidate
 first-zero : (c : tie.After-is-zero)
-    → let a = c .before .before .before .before .before .args in
-    allZero (fieldPart reservedField (now (a .candidate))) ≡ c .is-zero .result
+    → let tests = c .before .before in
+    allZero (fieldPart reservedField (now (tests .before .before .before .args .candidate))) ≡ c .is-zero .result
 first-zero c = sym (c .is-zero .ensures ∙ ap allZero (c .before .field-bytes .ensures))
 
 returns : tie.Need-returns

@@ -12,15 +12,17 @@ use Rattle.header.proofs.magic_of.Tie as tie
 
 -- what each comparison tells of the candidate
 is-vera : (c : tie.After-same-bytes)
-    → let a = c .before .before .before .before .args in
-    sameBytes (fieldPart magicField (now (a .candidate))) veraMagic ≡ c .same-bytes .result
+    → let field = c .before .before in
+    sameBytes (fieldPart magicField (now (field .before .before .args .candidate))) veraMagic ≡ c .same-bytes .result
 is-vera c = sym (c .same-bytes .ensures ∙ ap (λ (bytes : List ℕ). sameBytes bytes veraMagic) (c .before .before .field-bytes .ensures))
 
 is-true : (c : tie.After-same-bytes2)
-    → let a = c .before .before .before .before .before .before .before .args in
-    sameBytes (fieldPart magicField (now (a .candidate))) trueMagic ≡ c .same-bytes2 .result
+    → let other = c .before .before .before in
+    let field = other .before .before in
+    sameBytes (fieldPart magicField (now (field .before .before .args .candidate))) trueMagic ≡ c .same-bytes2 .result
 is-true c =
-    let field = c .before .before .before .before .before in
+    let other = c .before .before .before in
+    let field = other .before .before in
     sym (c .same-bytes2 .ensures ∙ ap (λ (bytes : List ℕ). sameBytes bytes trueMagic) (field .field-bytes .ensures))
 
 field-bytes-requires : tie.Need-field-bytes-requires

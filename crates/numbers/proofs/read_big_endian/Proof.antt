@@ -42,8 +42,9 @@ loop-less c = omega arith
 
 loop-again : tie.Need-loop-again Inv-loop μ-loop
 loop-again c =
-    let i : ℕ = c .before .before .before .loop .i in
-    let bytes : List ℕ = c .before .before .before .before .before .args .bytes .now in
+    let at = c .before .before .before in
+    let i : ℕ = at .loop .i in
+    let bytes : List ℕ = at .before .before .args .bytes .now in
     omega (arith, c .before .shared-slice-known2 .given i, big-endian-take bytes i (c .before .before .loop-test .taken))
 
 returns : tie.Need-returns Inv-loop μ-loop

@@ -42,8 +42,9 @@ loop-less c = omega arith
 
 loop-again : tie.Need-loop-again Inv-loop μ-loop
 loop-again c =
-    let left : ℕ = c .before .before .before .loop .left in
-    let bytes : List ℕ = c .before .before .before .before .before .args .bytes .now in
+    let at = c .before .before .before in
+    let left : ℕ = at .loop .left in
+    let bytes : List ℕ = at .before .before .args .bytes .now in
     let back : left - 1 + 1 ≡ left = omega arith in
     let step = rw back at (little-endian-drop bytes (left - 1) (omega arith)) in
     omega (arith, c .before .shared-slice-known2 .given (left - 1), step)

@@ -32,7 +32,8 @@ shared-slice-read-if2-2 c = omega arith
 
 returns-2 : tie.Need-returns-2 Inv-loop μ-loop
 returns-2 c =
-    let at = c .before .before .before .before in
+    let test = c .before .before in
+    let at = test .before .before in
     let a = at .before .before .args in
     let step = same-bytes-drop (now (a .a)) (now (a .b)) (at .loop .same) (omega arith) (omega arith) in
     simp (ne-eqb _ _ (c .if2 .taken)) at (sym step ∙ at .loop .inv .1)
@@ -45,7 +46,8 @@ loop-less c = omega arith
 
 loop-again : tie.Need-loop-again Inv-loop μ-loop
 loop-again c =
-    let at = c .before .before .before .before in
+    let test = c .before .before in
+    let at = test .before .before in
     let a = at .before .before .args in
     let step = same-bytes-drop (now (a .a)) (now (a .b)) (at .loop .same) (omega arith) (omega arith) in
     (omega arith, simp (eq-eqb _ _ (c .if2 .left)) at (sym step ∙ at .loop .inv .1))

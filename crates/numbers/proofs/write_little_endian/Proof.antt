@@ -16,7 +16,8 @@ use Rattle.numbers.proofs.write_little_endian.Tie as tie
 
 abbrev Inv-loop : tie.InvT-loop
 Inv-loop number bytes₀ rest₀ at₀ bytes rest at =
-    (at ≤ length bytes₀) × ((length bytes ≡ length bytes₀) × (littleEndianBytes (length bytes₀) number ≡ take at bytes ++ littleEndianBytes (length bytes₀ - at) rest))
+    let n = length bytes₀ in
+    (at ≤ n) × ((length bytes ≡ n) × (littleEndianBytes n number ≡ take at bytes ++ littleEndianBytes (n - at) rest))
 
 abbrev μ-loop : tie.MeasureT-loop
 μ-loop number bytes₀ rest₀ at₀ bytes rest at = length bytes₀ - at
