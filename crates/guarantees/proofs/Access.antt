@@ -1,7 +1,7 @@
 -- Reads and writes on any view keep the table of refusals and move sectors. Assumes nothing.
 use Prim.Native.Nat.{ℕ, _+_, _*_}
 use mathlib.Core.Path.{_≡_, refl, sym, ap, _∙_}
-use mathlib.Core.Bool.{Bool, true, false, cond}
+use mathlib.Core.Bool.{cond}
 use mathlib.Core.List.{List}
 use lib.Dec.{leb, eqb}
 use lib.ListN.{length}
@@ -12,7 +12,6 @@ use Rattle.access.proofs.JudgingLaws.{Passed, read-passed, write-passed}
 use Rattle.answers.specs.Answers.{isAccepted}
 use Rattle.answers.specs.declared.Answer.{Answer}
 use Rattle.answers.specs.declared.Answer.the-variants.{Accepted, Refused}
-use Rattle.protection.specs.Protection.{soundProtection}
 use Rattle.sector_map.specs.SectorMap.{sectors}
 use Rattle.view.specs.Outcomes.{viewRead, viewWrite, after}
 use Rattle.view.specs.declared.View.{View}

@@ -105,7 +105,8 @@ module _ (layout : Layout) (s : Sound layout) (u n : ℕ) where
         let count = (end - first) / 512 in
         let starts : first ≡ (o + start) * 512 = omega (arith, s .area .startMultiple, r .firstMultiple, r .starts) in
         let ends : end ≡ (o + start + count) * 512 = omega (arith, starts, r .firstMultiple, r .endMultiple, r .notEmpty) in
-        let sector = sector-of-both o start count u n (m .some) (omega (arith, ends, m .before)) (omega (arith, starts, m .behind)) (omega (arith, starts, ends, r .notEmpty)) in
+        let sector = sector-of-both o start count u n (m .some) (omega (arith, ends, m .before))
+        (omega (arith, starts, m .behind)) (omega (arith, starts, ends, r .notEmpty)) in
         (sector .0, record { starts = sector .1; ends = sector .2 }, record { starts = sector .3; ends = sector .4 })
 
     both-met : (sector : ℕ) → In extent sector → In range sector → Met

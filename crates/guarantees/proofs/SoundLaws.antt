@@ -1,6 +1,6 @@
 -- The test of a layout's soundness reflects what the guarantees say of it, and a sound layout starts behind the headers.
 -- Assumes nothing.
-use Prim.Native.Nat.{ℕ, _≤_}
+use Prim.Native.Nat.{_≤_}
 use native.Mathlib.Omega.{arith}
 use mathlib.Core.Path.{refl}
 use mathlib.Core.Logic.{⊎-elim}

@@ -13,6 +13,7 @@ use Rattle.protection.specs.declared.Protection.the-variants.{Unprotected, Prot
 use Rattle.model.specs.Model.{Rules}
 use Rattle.guarantees.specs.Table.{Operation, reads, writes, Call, tabled, covers}
 
+-- a call writes
 unfoldable pub isWrite : Operation → Bool
 isWrite reads = false
 isWrite writes = true

@@ -6,7 +6,7 @@ use mathlib.Core.Bool.{Bool, false}
 use mathlib.Core.List.{List, [], _∷_, map}
 use Rattle.model.specs.Model.{Rules, State, Reply, reply, next, replies, final}
 use Rattle.model.specs.Sides.{Side, outer, hidden, Turn, turn, Interleaves, none, fromOuter, fromHidden}
-use Rattle.model.specs.Sides.{Both, at, put, sided, bySide}
+use Rattle.model.specs.Sides.{Both, at, sided, bySide}
 use Rattle.model.proofs.Lawful.{Lawful}
 use Rattle.model.proofs.Sameness.{Apart, Same, same-refl, same-sym, same-trans, next-same, next-other}
 use Rattle.model.proofs.SideLaws.{isSide, at-put-same, at-put-other}

@@ -37,7 +37,8 @@ table = refl
 
 output : layoutLines volumeM
     ≡ letters "mark TRUE\nversion 5\nneeds 7\nkind standard\nhost 1048576\nstart 131072\nsize 786432\nsectors 1536\nfirst 256\nlast 1791\n"
-unfolding layoutLines headerLines areaLines sectorLines magicLine kindLine eitherLine numberLine line decimal digits sectors firstSector lastSector volume volumeM
+unfolding layoutLines headerLines areaLines sectorLines magicLine kindLine eitherLine numberLine line
+    decimal digits sectors firstSector lastSector volume volumeM
 output = refl
 
 pub as-worked : AsWorked
