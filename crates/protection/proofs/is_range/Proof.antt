@@ -21,7 +21,9 @@ returns-3 c = simp (eq-eqb _ _ (c .before .before .if1 .left), eq-eqb _ _ (c .be
 
 returns-4 : tie.Need-returns-4
 unfolding protectionRule
-returns-4 c = simp (eq-eqb _ _ (c .before .before .before .if1 .left), eq-eqb _ _ (c .before .before .if2 .left), eq-eqb _ _ (c .before .if3 .left), le-ltb _ _ (c .if4 .taken))
+returns-4 c =
+    let two = c .before .before in
+    simp (eq-eqb _ _ (two .before .if1 .left), eq-eqb _ _ (two .if2 .left), eq-eqb _ _ (c .before .if3 .left), le-ltb _ _ (c .if4 .taken))
 
 returns-5 : tie.Need-returns-5
 unfolding protectionRule
