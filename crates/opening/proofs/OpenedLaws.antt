@@ -3,7 +3,7 @@
 use Prim.Native.Nat.{ℕ, suc, _+_, _*_, _≤_, _<_}
 use native.Mathlib.Omega.{arith}
 use mathlib.Core.Path.{_≡_, refl}
-use mathlib.Core.Bool.{Bool, true, false, _&&_, cond}
+use mathlib.Core.Bool.{Bool, true, false, _&&_}
 use mathlib.Core.List.{List, [], _∷_, foldl}
 use lib.Dec.{leb, eqb}
 use lib.ListN.{length}
@@ -41,7 +41,7 @@ module _ (candidates : List ℕ) (hostSize : ℕ) (layout : Layout) where
   unfolding further
   further-inside index (Accepted l) next before own e = omega (arith, before e)
   further-inside index (Refused number) (Accepted l) before own e = omega (arith, own e)
-  further-inside index (Refused number) (Refused later) before own e = absurd (refused-accepted (cond (eqb number 4) later number) layout e)
+  further-inside index (Refused number) (Refused later) before own e = absurd (refused-accepted _ layout e)
 
   search-inside : (index : ℕ) (answer : Opened) (codes : List ℕ) → (answer ≡ Accepted layout → layout .candidate < index)
       → foldl further answer (judgements candidates hostSize index codes) ≡ Accepted layout → layout .candidate < index + length codes

@@ -43,7 +43,8 @@ enum-told-2 c = search needs
 sub-t22 : tie.Need-sub-t22
 unfolding locationOf locations
 sub-t22 c =
-    let sized = c .before .before .before .before in
+    let entered = c .before .before .before in
+    let sized = entered .before in
     let args = sized .before .before .before .args in
     le-trans (distance-le (args .code)) (le-trans (lit≤ tt) (host-size-least (args .host-size) (size-kept sized)))
 
@@ -56,7 +57,8 @@ returns-3 c =
 returns-4 : tie.Need-returns-4
 unfolding located codeRule locationOf locations offsetFrom
 returns-4 c =
-    let sized = c .before .before .before .before in
+    let entered = c .before .before .before in
+    let sized = entered .before in
     simp (le-leb _ _ (sized .before .before .if1 .left), size-kept sized, c .before .enum-told2 .given .1)
 
 pub locate-spec : {M : Type 1} → statement M

@@ -12,13 +12,15 @@ use Rattle.opening.proofs.open.Tie as tie
 
 -- what the first two tests tell once they are passed
 lengths-kept : (c : tie.Else1)
-    → let args = c .before .before .before .before .args in
+    → let tested = c .before .before in
+    let args = tested .before .before .args in
     lengthsRule (now (args .candidates)) (now (args .codes)) ≡ true
 lengths-kept c = sym (c .before .lengths-agree .ensures) ∙ not-false _ (c .if1 .left)
 
 codes-kept : (c : tie.Else2)
     → let lengths = c .before .before in
-    codesRule (now (lengths .before .before .before .before .args .codes)) ≡ true
+    let tested = lengths .before .before in
+    codesRule (now (tested .before .before .args .codes)) ≡ true
 codes-kept c = sym (c .before .codes-known .ensures) ∙ not-false _ (c .if2 .left)
 
 lengths-agree-requires : tie.Need-lengths-agree-requires
@@ -48,7 +50,8 @@ search-in-order-requires : tie.Need-search-in-order-requires
 search-in-order-requires c κs =
     let codes = c .before .before in
     let lengths = codes .before .before in
-    let args = lengths .before .before .before .before .args in
+    let tested = lengths .before .before in
+    let args = tested .before .before .args in
     let most = lengths-most (now (args .candidates)) (now (args .codes)) (lengths-kept lengths) in
     let whole = lengths-whole (now (args .candidates)) (now (args .codes)) (lengths-kept lengths) in
     (most, (whole, codes-kept codes))

@@ -34,13 +34,15 @@ code-known c =
 
 -- the search over one candidate more
 next : (c : tie.After-judge Inv-loop μ-loop)
-    → let turn = c .before .before .before .before .before in
+    → let entered = c .before .before .before in
+    let turn = entered .before .before in
     let args = turn .before .before .before .args in
     searched (now (args .candidates)) (args .host-size) (take (turn .loop .index + 1) (now (args .codes)))
     ≡ further (Refused (turn .loop .first)) (c .judge .result)
 unfolding candidateAt locationOf locations
 next c =
-    let turn = c .before .before .before .before .before in
+    let entered = c .before .before .before in
+    let turn = entered .before .before in
     let args = turn .before .before .before .args in
     searched-next (now (args .candidates)) (args .host-size) (now (args .codes)) (turn .loop .index) (omega arith)
     ∙ rw (turn .loop .inv .1, simp add-sub-cancel-left at (c .judge .ensures))
@@ -110,7 +112,8 @@ returns-2 : tie.Need-returns-2 Inv-loop μ-loop
 unfolding further
 returns-2 c =
     let judged = c .before .before .before in
-    let turn = judged .before .before .before .before .before in
+    let entered = judged .before .before .before in
+    let turn = entered .before .before in
     let args = turn .before .before .before .args in
     let told = c .before .judged .given in
     sym
