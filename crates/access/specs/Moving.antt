@@ -1,24 +1,17 @@
 -- What reads and writes move (RULES.md, Reads and writes): an extent's first byte in the host, and the buffer and the image after a call
 -- by its answer. What the contracts of `access` cite. Assumes nothing.
 use Prim.Native.Nat.{ℕ, _+_, _*_}
-use mathlib.Core.Bool.{_&&_, cond}
+use mathlib.Core.Bool.{cond}
 use mathlib.Core.List.{List, _++_}
-use lib.Dec.{leb}
 use lib.ListN.{length, take, drop}
 use Rattle.answers.specs.Answers.{isAccepted}
 use Rattle.answers.specs.declared.Answer.{Answer}
 use Rattle.layout.specs.Rules.{sectorBytes}
-use Rattle.layout.specs.Soundness.{sound}
 use Rattle.layout.specs.declared.Layout.{Layout}
-use Rattle.sector_map.specs.SectorMap.{sectors}
 
 -- the first byte of an extent in the host: O and 512 for each user sector before it
 unfoldable pub extentStart : Layout → ℕ → ℕ
 extentStart layout first = layout .«data_start» + first * sectorBytes
-
--- the same where a sound layout has such a place, else 0
-unfoldable pub extentOffset : Layout → ℕ → ℕ
-extentOffset layout first = cond (sound layout && leb first (sectors layout)) (extentStart layout first) 0
 
 -- bytes laid over an image from an offset on
 unfoldable pub overlay : ℕ → List ℕ → List ℕ → List ℕ

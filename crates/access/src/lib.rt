@@ -11,7 +11,7 @@ ghost use Rattle.layout.specs.Rules.{maxHostSize};
 ghost use Rattle.copy.specs.Copy.{maxSize};
 ghost use Rattle.sector_map.specs.SectorMap.{sectors};
 ghost use Rattle.access.specs.Judging.{readAnswer, writeAnswer, lockAnswer, lockedAfter};
-ghost use Rattle.access.specs.Moving.{extentStart, extentOffset, overlay, filledBy, writtenBy};
+ghost use Rattle.access.specs.Moving.{extentStart, overlay, filledBy, writtenBy};
 use answers::Answer;
 use extent::Extent;
 use extent::Overlap;
@@ -85,19 +85,6 @@ pub fn locked_after(locked: bool, answer: Answer) -> bool
             locked
         }
     }
-}
-
-// The first byte of an extent in the host, 0 where the layout is not sound or has no such sector.
-pub fn extent_offset(layout: Layout, first: u64) -> u64
-    ensures { λ r. ⌜ r ≡ extentOffset layout first ⌝ }
-{
-    if !layout::is_sound(layout) {
-        return 0;
-    }
-    if layout.data_size / SECTOR_SIZE < first {
-        return 0;
-    }
-    extent_start(layout, first)
 }
 
 // Copies count sectors, from user sector first on, out of the image and fills the buffer with them. A
@@ -222,6 +209,7 @@ fn is_inside(layout: Layout, first: u64, count: u64) -> bool
     first <= sectors - count
 }
 
+// The first byte of an extent in the host.
 fn extent_start(layout: Layout, first: u64) -> u64
     requires { ⌜ sound layout ≡ true ⌝ }
     requires { ⌜ first ≤ sectors layout ⌝ }
