@@ -22,6 +22,7 @@ pub mod MapProgram
 pub mod NestLaws
 pub mod Numbers
 pub mod Opening
+pub mod Parts
 pub mod RangeLaws
 pub mod Reflects
 pub mod RuleReflections

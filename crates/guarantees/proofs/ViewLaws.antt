@@ -12,7 +12,7 @@ use Rattle.guarantees.specs.Views.{SoundRange, SoundView}
 use Rattle.guarantees.proofs.Reflects.{Reflects, holds, reflects-map, reflects-and, reflects-eqb, reflects-leb}
 use Rattle.guarantees.proofs.SoundLaws.{sound-reflects}
 
-range-reflects : (layout : Layout) (protection : Protection) → Reflects (SoundRange layout protection) (protectionRule layout protection)
+pub range-reflects : (layout : Layout) (protection : Protection) → Reflects (SoundRange layout protection) (protectionRule layout protection)
 unfolding SoundRange protectionRule areaEnd
 range-reflects layout Unprotected = holds tt
 range-reflects layout (Protected first end) =

@@ -3,6 +3,7 @@ use Prim.Native.Nat.{ℕ}
 use mathlib.Core.List.{List}
 use Rattle.extent.specs.declared.Extent.{Extent}
 use Rattle.layout.specs.declared.Layout.{Layout}
+use Rattle.protection.specs.declared.Protection.{Protection}
 use Rattle.view.specs.declared.View.{View}
 use Rattle.guarantees.specs.Access.{AccessesByTable}
 use Rattle.guarantees.specs.Boundary.{TellsNumbers, ReturnsZero, OrdersNumbers, StoresAnswers}
@@ -14,6 +15,7 @@ use Rattle.guarantees.specs.Judging.{KeepsRules, JudgesExactly, GivesKey
 use Rattle.guarantees.specs.MapProgram.{ReadsInput, PrintsLines}
 use Rattle.guarantees.specs.Numbers.{SpellsNumbers, ChecksBytes}
 use Rattle.guarantees.specs.Opening.{OpensExactlyWhen, LocatesHeaders}
+use Rattle.guarantees.specs.Parts.{KeepsParts}
 use Rattle.guarantees.specs.SectorMap.{MapsExactly, OpenedIsSound}
 use Rattle.guarantees.specs.Views.{MakesViews}
 
@@ -32,6 +34,7 @@ pub record Claims : Type 0 where
   pub maps : (layout : Layout) → MapsExactly layout
   -- views, and reads and writes on any of them
   pub views : (outer hiddenLayout : Layout) → MakesViews outer hiddenLayout
+  pub parts : (layout hiddenLayout : Layout) (protection : Protection) → KeepsParts layout hiddenLayout protection
   pub accesses : (view : View) (image : List ℕ) (first count : ℕ) (buffer : List ℕ) → AccessesByTable view image first count buffer
   -- demand 3, and from two headers to it
   pub demand3 : (outerLayout hiddenLayout : Layout) → Demand3 outerLayout hiddenLayout

@@ -10,6 +10,7 @@ pub mod Judging
 pub mod MapProgram
 pub mod Numbers
 pub mod Opening
+pub mod Parts
 pub mod ReferenceModel
 pub mod SectorMap
 pub mod Table

@@ -9,6 +9,7 @@ use Rattle.guarantees.proofs.Judging.{keeps-rules, judges-exactly, give
 use Rattle.guarantees.proofs.MapProgram.{reads-input, prints-lines}
 use Rattle.guarantees.proofs.Numbers.{spells-numbers, checks-bytes}
 use Rattle.guarantees.proofs.Opening.{opens-exactly-when, locates-headers}
+use Rattle.guarantees.proofs.Parts.{keeps-parts}
 use Rattle.guarantees.proofs.SectorMap.{maps-exactly, opened-sound}
 use Rattle.guarantees.proofs.Views.{makes-views}
 use Rattle.guarantees.proofs.demands.Statement.{statement}
@@ -28,6 +29,7 @@ returns c =
       openedSound = opened-sound;
       maps = maps-exactly;
       views = makes-views;
+      parts = keeps-parts;
       accesses = accesses-by-table;
       demand3 = demand-3;
       fromHeaders = from-headers;
