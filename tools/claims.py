@@ -13,8 +13,8 @@ same contract letter by letter, of that function's crate, as `crate/edit`. No pu
 
 In another table, a column that has "edit" or "edits" in its head has nothing but edits, and one that has
 "field of `Record`" nothing but fields of that record and names with a dot or slash. Each field of the record
-Claims stands in such a column or as `Claims.field`, and each edit of `guarantees` in a column of edits or as
-`guarantees/edit`.
+Claims stands in such a column or as `Claims.field`, and each edit of a crate of claims in a column of edits or
+with its crate, as `guarantees/edit`.
 
 No count of such things is written by hand.
 """
@@ -22,7 +22,7 @@ import re
 import sys
 
 import rules
-from named import (CLAIMS, GUARANTEES, ROOT, exists, is_edit, names_in, read_files, read_repository, rows,
+from named import (CLAIMING, CLAIMS, GUARANTEES, ROOT, exists, is_edit, names_in, read_files, read_repository, rows,
                    unended_problems)
 
 PAGE = 'docs/CLAIMS.md'
@@ -143,9 +143,11 @@ def claim_problems(page, repository):
     for field in sorted(repository.claims - fields):
         if f'Claims.{field}' not in dotted:
             yield end, f'the field `{field}` of {CLAIMS} is not on the page'
-    for edit in sorted(repository.crates[GUARANTEES].edits - edits):
-        if f'{GUARANTEES}/{edit}' not in dotted:
-            yield end, f'the must-fail edit `{edit}` of {GUARANTEES} is not on the page'
+    own = {name if '/' in name else f'{GUARANTEES}/{name}' for name in edits} | dotted
+    for crate in CLAIMING:
+        for edit in sorted(repository.crates[crate].edits if crate in repository.crates else ()):
+            if f'{crate}/{edit}' not in own:
+                yield end, f'the must-fail edit `{edit}` of {crate} is not on the page'
 
 
 def count_problems(page):

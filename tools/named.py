@@ -20,6 +20,8 @@ from pathlib import Path
 ROOT = Path(__file__).resolve().parent.parent
 CLAIMS = 'crates/guarantees/specs/Claims.antt'
 GUARANTEES = 'guarantees'
+# The crates whose specs say claims, or what claims are said in; each of their must-fail edits makes one wrong.
+CLAIMING = (GUARANTEES, 'model', 'worked_cases')
 
 # Words of Rattle and C that may stand in backticks.
 PLAIN = {'requires', '&mut', 'memmove'}

@@ -3,14 +3,14 @@
 named.py says what may stand in backticks; here also one of WORDS.
 
 A rule's bullet "definition: `a`, `b` (path); claim: `c`" has behind its definitions the file under crates/ that
-declares them, and as claims what specs of `guarantees` declare, or a function of `guarantees`. In a table the head of
+declares them, and as claims what specs of a crate of claims declare, or a function of one. In a table the head of
 a column is "definition (path)" or "claim". A column headed "edit" has nothing but edits, with their crates. The table
 headed "file in guarantees/specs" has a row for every file there, with names that the file declares.
 """
 import re
 from pathlib import Path
 
-from named import (GUARANTEES, PLAIN, block_names, blocks, exists, is_declared, is_edit, names_in, rows,
+from named import (CLAIMING, GUARANTEES, PLAIN, block_names, blocks, exists, is_declared, is_edit, names_in, rows,
                    unended_problems)
 
 PAGE = 'docs/RULES.md'
@@ -22,9 +22,12 @@ WORDS |= {'refused 1', 'refused N', '123456789'}
 
 
 def is_claim(name, repository):
-    """What specs of `guarantees` declare, or a public function of it."""
-    stated = set().union(*(names for path, names in repository.declared.items() if path.startswith(SPECS)))
-    return name in PLAIN or name in repository.crates[GUARANTEES].functions or is_declared(name, stated, repository)
+    """What specs of a crate of claims declare, or a public function of one."""
+    crates = [crate for crate in CLAIMING if crate in repository.crates]
+    specs = tuple(f'crates/{crate}/specs' for crate in crates)
+    stated = set().union(*(names for path, names in repository.declared.items() if path.startswith(specs)))
+    functions = set().union(*(repository.crates[crate].functions for crate in crates))
+    return name in PLAIN | functions or is_declared(name, stated, repository)
 
 
 # What is wrong: pairs of a line and a sentence.
@@ -59,7 +62,7 @@ def definition_problems(line, text, repository):
 def stated_problems(names, repository):
     for name in names:
         if not is_claim(name.text, repository):
-            yield name.line, f'`{name.text}` is no claim of {GUARANTEES}'
+            yield name.line, f'`{name.text}` is no claim'
 
 
 def rule_problems(page, repository):
