@@ -4,7 +4,7 @@ use mathlib.Core.Path.{_∙_}
 use borrow.Author.Needs.{needs}
 use borrow.Author.Tests.{eq-eqb, ne-eqb, le-leb, lt-leb}
 use Rattle.protection.specs.Protection.{areaEnd, nests}
-use Rattle.protection.proofs.RangeLaws.{leb-sub-add}
+use Rattle.protection.proofs.ProtectionLaws.{leb-sub-add}
 use Rattle.protection.proofs.do_nest.Statement.{statement}
 use Rattle.protection.proofs.do_nest.Tie as tie
 

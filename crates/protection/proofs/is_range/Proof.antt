@@ -3,7 +3,7 @@
 use borrow.Author.Needs.{needs}
 use borrow.Author.Tests.{eq-eqb, ne-eqb, le-leb, lt-leb, lt-ltb, le-ltb}
 use Rattle.protection.specs.Protection.{protectionRule}
-use Rattle.protection.proofs.RangeLaws.{range-by-end}
+use Rattle.protection.proofs.ProtectionLaws.{range-by-end}
 use Rattle.protection.proofs.is_range.Statement.{statement}
 use Rattle.protection.proofs.is_range.Tie as tie
 

@@ -4,7 +4,7 @@ use native.Mathlib.Omega.{arith}
 use borrow.Author.Needs.{needs}
 use Rattle.layout.proofs.RuleLaws.{sound-end-le}
 use Rattle.protection.specs.Protection.{areaEnd}
-use Rattle.protection.proofs.RangeLaws.{pair-hidden-sound}
+use Rattle.protection.proofs.ProtectionLaws.{pair-hidden-sound}
 use Rattle.view.specs.Views.{protectedView, protectedOf, madeBy}
 use Rattle.view.proofs.protected.Statement.{statement}
 use Rattle.view.proofs.protected.Tie as tie
