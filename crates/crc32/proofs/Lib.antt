@@ -1,3 +1,3 @@
-pub mod StepLaws
-pub mod TableLaws
+pub mod BitStepLaws
+pub mod CrcTableLaws
 pub mod WordLaws

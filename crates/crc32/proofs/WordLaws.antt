@@ -12,8 +12,8 @@ use Rattle.numbers.specs.Numbers.{littleEndian}
 use Rattle.bits.specs.Bits.{Bytes}
 use Rattle.crc32.specs.Crc32.{bitSteps, crcFrom}
 use Rattle.crc32.specs.Tables.{crcTables}
-use Rattle.crc32.proofs.StepLaws.{crc-from-append, crc-from-word}
-use Rattle.crc32.proofs.TableLaws.{table-byte}
+use Rattle.crc32.proofs.BitStepLaws.{crc-from-append, crc-from-word}
+use Rattle.crc32.proofs.CrcTableLaws.{table-byte}
 
 drop-one : (l : List ℕ) (i j : ℕ) → j ≡ suc i → i < length l → drop i l ≡ getD l i 0 ∷ drop j l
 drop-one l i j e h = drop-cons l i 0 h ∙ ap (λ (k : ℕ). getD l i 0 ∷ drop k l) (sym e)

@@ -24,8 +24,8 @@ use Rattle.model.specs.Sides.{Side, outer, hidden, at, eachWith, OnSide}
 use Rattle.model.proofs.RunLaws.{run-exists, run-carries}
 use Rattle.model.proofs.SideLaws.{on-side-exists, on-side-carries}
 use Rattle.guarantees.specs.Boundary.{storedLayout, storedProtection}
-use Rattle.guarantees.specs.BoundaryRuns.{Numbers, Twelve, told, answerTold, storedFor, NumberKeeps, NumberStep, CarriesRuns, BeginsRuns}
-use Rattle.guarantees.specs.Interleaving.{Keeps, Step, sideView}
+use Rattle.guarantees.specs.BoundaryRuns.{Numbers, Twelve, told, answerTold, storedFor, KeepsNumberContract, NumberStep, CarriesRuns, BeginsRuns}
+use Rattle.guarantees.specs.Interleaving.{KeepsContract, Step, sideView}
 use Rattle.guarantees.specs.Table.{Operation, reads, writes, Call}
 use Rattle.guarantees.specs.Views.{plain, protecting}
 use Rattle.guarantees.proofs.Boundary.{stores-answers}
@@ -68,9 +68,9 @@ told-back e t = ap answerWith e ∙ t
 
 -- one view's numbers
 step-is : (state after : State (List ℕ)) (operation : Operation) (first count : ℕ) (buffer : List ℕ) (given : Reply ℕ) → length (state .held) ≡ 12
-    → NumberKeeps operation state first count buffer given after
-    → Keeps operation (stateWith viewFrom state) first count buffer (answerTold given) (stateWith viewFrom after) × (length (after .held) ≡ 12)
-unfolding NumberKeeps Keeps stateWith answerTold
+    → KeepsNumberContract operation state first count buffer given after
+    → KeepsContract operation (stateWith viewFrom state) first count buffer (answerTold given) (stateWith viewFrom after) × (length (after .held) ≡ 12)
+unfolding KeepsNumberContract KeepsContract stateWith answerTold
 step-is state after reads first count buffer given twelve kept = (
   (
     record {
@@ -97,11 +97,11 @@ step-is state after writes first count buffer given twelve kept =
     )
 
 step-exists : (state : State (List ℕ)) (call : Call) → (given : Reply ℕ) × (after : State (List ℕ)) × NumberStep state call given after
-unfolding NumberKeeps
+unfolding KeepsNumberContract
 step-exists state call = go (call .operation) (call .first) (call .count) (call .buffer)
   where
     go : (operation : Operation) (first count : ℕ) (buffer : List ℕ)
-        → (given : Reply ℕ) × (after : State (List ℕ)) × NumberKeeps operation state first count buffer given after
+        → (given : Reply ℕ) × (after : State (List ℕ)) × KeepsNumberContract operation state first count buffer given after
     go reads first count buffer = (record { answer = _; buffer = _ }, state, (record { returns = refl; fills = refl }, refl))
     go writes first count buffer =
         (record { answer = _; buffer = buffer }, record { image = _; held = _ }, (record { returns = refl; writes = refl; locks = refl }, refl))

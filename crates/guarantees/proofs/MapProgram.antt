@@ -15,7 +15,7 @@ use Rattle.sector_map.specs.SectorMap.{sectors, firstSector, sectorCount, hostS
 use Rattle.answers.specs.declared.Numbered.the-variants.{Number}
 use Rattle.map_input.specs.MapInput.{openedInput}
 use Rattle.map_output.specs.Ascii.{ascii}
-use Rattle.map_output.specs.MapOutput.{line, numberLine, eitherLine, magicLine, kindLine, headerLines, areaLines, sectorLines, lastSector}
+use Rattle.map_output.specs.MapOutput.{textLine, numberLine, eitherLine, magicLine, kindLine, headerLines, areaLines, sectorLines, lastSector}
 use Rattle.map_output.specs.MapOutput.{layoutLines, refusalLine}
 use Rattle.guarantees.specs.SectorMap.{Sound}
 use Rattle.guarantees.specs.MapProgram.{ReadsInput, MagicWord, vera, other, KindWord, hidden, standard, PrintsLines}
@@ -45,12 +45,12 @@ input-refused input f = rw (ne-eqb (length input) 521 f)
 pub reads-input : ReadsInput
 reads-input = record { opens = input-opens; otherLength = input-refused }
 
-mark-line : {magic : ℕ} {word : List ℕ} → MagicWord magic word → magicLine magic ≡ line (ascii "mark") word
+mark-line : {magic : ℕ} {word : List ℕ} → MagicWord magic word → magicLine magic ≡ textLine (ascii "mark") word
 unfolding magicLine eitherLine
 mark-line vera = refl
 mark-line (other f) = rw (ne-eqb _ 0 f)
 
-kind-line : {kind : ℕ} {word : List ℕ} → KindWord kind word → kindLine kind ≡ line (ascii "kind") word
+kind-line : {kind : ℕ} {word : List ℕ} → KindWord kind word → kindLine kind ≡ textLine (ascii "kind") word
 unfolding kindLine eitherLine
 kind-line hidden = refl
 kind-line (standard f) = rw (ne-eqb _ 1 f)
@@ -70,7 +70,7 @@ maps layout s =
     (map .count, map .there 0 some ∙ ap Number (omega arith), map .there (layout .«data_size» / 512 - 1) (omega arith))
 
 pub prints-lines : PrintsLines
-unfolding layoutLines headerLines areaLines sectorLines numberLine line sectors firstSector lastSector refusalLine
+unfolding layoutLines headerLines areaLines sectorLines numberLine textLine sectors firstSector lastSector refusalLine
 prints-lines =
     record {
       lines = λ layout mark kind m k.

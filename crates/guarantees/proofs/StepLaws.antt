@@ -12,7 +12,7 @@ use Rattle.protection.specs.declared.Protection.{Protection}
 use Rattle.view.specs.declared.View.{View}
 use Rattle.model.specs.Model.{State, stateWith, Reply, judged, bufferAfter, imageAfter, reply, next}
 use Rattle.model.proofs.RunLaws.{Agrees, Models}
-use Rattle.guarantees.specs.Interleaving.{Keeps, Step}
+use Rattle.guarantees.specs.Interleaving.{KeepsContract, Step}
 use Rattle.guarantees.specs.ReferenceModel.{isWrite, anyInRange, hostsOf, lockLeft, viewRules}
 use Rattle.guarantees.specs.Table.{Operation, reads, writes, Call}
 use Rattle.guarantees.specs.Views.{SoundView}
@@ -25,9 +25,9 @@ module _ (layout : Layout) (protection : Protection) where
 
   module _ (sound : (locked : Bool) → SoundView (viewWith locked)) where
     agrees : (operation : Operation) (first count : ℕ) (buffer : List ℕ) (model : State Bool) (given : Reply Answer) (after : State View)
-        → Keeps operation (stateWith viewWith model) first count buffer given after
+        → KeepsContract operation (stateWith viewWith model) first count buffer given after
         → Agrees (viewRules layout protection) viewWith (record { operation = operation; first = first; count = count; buffer = buffer }) model given after
-    unfolding Keeps reply next judged bufferAfter imageAfter stateWith viewRules isWrite
+    unfolding KeepsContract reply next judged bufferAfter imageAfter stateWith viewRules isWrite
     agrees reads first count buffer model given after kept =
         let call : Call = record { operation = reads; first = first; count = count; buffer = buffer } in
         let rules = viewRules layout protection in
@@ -58,11 +58,11 @@ module _ (layout : Layout) (protection : Protection) where
     view-models call model given after kept = agrees (call .operation) (call .first) (call .count) (call .buffer) model given after kept
 
 pub step-exists : (state : State View) (call : Call) → (given : Reply Answer) × (after : State View) × Step state call given after
-unfolding Keeps
+unfolding KeepsContract
 step-exists state call = go (call .operation) (call .first) (call .count) (call .buffer)
   where
     go : (operation : Operation) (first count : ℕ) (buffer : List ℕ)
-        → (given : Reply Answer) × (after : State View) × Keeps operation state first count buffer given after
+        → (given : Reply Answer) × (after : State View) × KeepsContract operation state first count buffer given after
     go reads first count buffer = (
       record { answer = viewRead (state .held) (length (state .image)) first count (length buffer); buffer = _ },
       state,

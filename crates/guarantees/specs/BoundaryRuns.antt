@@ -47,14 +47,14 @@ storedFor outerLayout hiddenLayout before other image =
     }
 
 -- an exported call that keeps its contract, by what it does, on a view's numbers
-unfoldable pub NumberKeeps : Operation → State (List ℕ) → ℕ → ℕ → List ℕ → Reply ℕ → State (List ℕ) → Type 0
-NumberKeeps reads state first count buffer given after =
+unfoldable pub KeepsNumberContract : Operation → State (List ℕ) → ℕ → ℕ → List ℕ → Reply ℕ → State (List ℕ) → Type 0
+KeepsNumberContract reads state first count buffer given after =
     ReadCall (state .held) (state .image) first count buffer (given .answer) (given .buffer) × (after ≡ state)
-NumberKeeps writes state first count buffer given after =
+KeepsNumberContract writes state first count buffer given after =
     WriteCall (state .held) (state .image) first count buffer (given .answer) (after .image) (after .held) × (given .buffer ≡ buffer)
 
 abbrev pub NumberStep : State (List ℕ) → Call → Reply ℕ → State (List ℕ) → Type 0
-NumberStep state call given after = NumberKeeps (call .operation) state (call .first) (call .count) (call .buffer) given after
+NumberStep state call given after = KeepsNumberContract (call .operation) state (call .first) (call .count) (call .buffer) given after
 
 -- the claim, from any numbers on
 pub record CarriesRuns (numbers : Numbers) : Type 0 where

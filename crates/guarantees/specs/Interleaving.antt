@@ -22,16 +22,16 @@ use Rattle.guarantees.specs.Table.{Operation, reads, writes, Call}
 use Rattle.guarantees.specs.Views.{area, plain, protecting, Nested}
 
 -- a call that keeps its contract, by what it does: a read leaves the image, a write its buffer
-unfoldable pub Keeps : Operation → State View → ℕ → ℕ → List ℕ → Reply Answer → State View → Type 0
-Keeps reads state first count buffer given after =
+unfoldable pub KeepsContract : Operation → State View → ℕ → ℕ → List ℕ → Reply Answer → State View → Type 0
+KeepsContract reads state first count buffer given after =
     ReadPost (state .held) (state .image) first count buffer (record { view = after .held; answer = given .answer }) (given .buffer)
     × (after .image ≡ state .image)
-Keeps writes state first count buffer given after =
+KeepsContract writes state first count buffer given after =
     WritePost (state .held) (state .image) first count buffer (record { view = after .held; answer = given .answer }) (after .image)
     × (given .buffer ≡ buffer)
 
 abbrev pub Step : State View → Call → Reply Answer → State View → Type 0
-Step state call given after = Keeps (call .operation) state (call .first) (call .count) (call .buffer) given after
+Step state call given after = KeepsContract (call .operation) state (call .first) (call .count) (call .buffer) given after
 
 module _ (outerLayout hiddenLayout : Layout) where
   -- the layout of a side

@@ -1,2 +1,2 @@
-pub mod DecimalLaws
-pub mod WrittenLaws
+pub mod DigitLaws
+pub mod PutLaws

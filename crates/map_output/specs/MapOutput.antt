@@ -13,16 +13,16 @@ use Rattle.map_output.specs.Ascii.{ascii}
 use Rattle.map_output.specs.Decimal.{decimal}
 
 -- a line: a label, a space, a value and a line feed
-unfoldable pub line : List ℕ → List ℕ → List ℕ
-line label value = label ++ (32 ∷ []) ++ value ++ (10 ∷ [])
+unfoldable pub textLine : List ℕ → List ℕ → List ℕ
+textLine label value = label ++ (32 ∷ []) ++ value ++ (10 ∷ [])
 
 -- a line whose value is a number
 unfoldable pub numberLine : List ℕ → ℕ → List ℕ
-numberLine label number = line label (decimal number)
+numberLine label number = textLine label (decimal number)
 
 -- a line whose value is one of two words: the first where the test holds
 unfoldable pub eitherLine : List ℕ → Bool → List ℕ → List ℕ → List ℕ
-eitherLine label test one other = line label (cond test one other)
+eitherLine label test one other = textLine label (cond test one other)
 
 -- the mark: VERA for that magic, TRUE for any other
 unfoldable pub magicLine : ℕ → List ℕ

@@ -4,7 +4,7 @@ ghost use mathlib.Core.Path.{_≡_};
 ghost use Prim.Native.Nat.{_+_, _*_, _%_, _≤_};
 ghost use lib.ListN.{length};
 ghost use Rattle.map_output.specs.Decimal.{Spelled};
-ghost use Rattle.map_output.specs.MapOutput.{line, numberLine, eitherLine, magicLine, kindLine, lineRoom};
+ghost use Rattle.map_output.specs.MapOutput.{textLine, numberLine, eitherLine, magicLine, kindLine, lineRoom};
 ghost use Rattle.map_output.specs.MapOutput.{headerLines, areaLines, sectorLines, lastSector, layoutLines, refusalLine};
 ghost use Rattle.map_output.specs.MapOutput.{Written, Rendered};
 use layout::Layout;
@@ -162,7 +162,7 @@ fn put_line(out: &mut [u8], at: usize, label: &[u8], value: &[u8]) -> usize
     requires { ⌜ length (now label) ≤ 8 ⌝ }
     requires { ⌜ length (now value) ≤ 20 ⌝ }
     requires { ⌜ at + lineRoom ≤ length (now out) ⌝ }
-    ensures { λ r. ⌜ Written lineRoom (line (now (label .entry)) (now (value .entry))) (now (out .entry)) at (now (out .exit)) r ⌝ }
+    ensures { λ r. ⌜ Written lineRoom (textLine (now (label .entry)) (now (value .entry))) (now (out .entry)) at (now (out .exit)) r ⌝ }
 {
     let space = put(out, at, label);
     let first = put(out, space, b" ");

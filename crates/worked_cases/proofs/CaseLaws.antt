@@ -19,7 +19,7 @@ use Rattle.protection.specs.Protection.{areaEnd, protectionRule, soundProtectio
 use Rattle.view.specs.Outcomes.{after}
 use Rattle.view.specs.Views.{plainOf, protectedOf, madeBy, plainView, protectedView}
 use Rattle.map_output.specs.Decimal.{digits, decimal}
-use Rattle.map_output.specs.MapOutput.{line, numberLine, eitherLine, magicLine, kindLine, headerLines, areaLines, sectorLines, lastSector, layoutLines}
+use Rattle.map_output.specs.MapOutput.{textLine, numberLine, eitherLine, magicLine, kindLine, headerLines, areaLines, sectorLines, lastSector, layoutLines}
 use Rattle.guarantees.specs.MapProgram.{letters}
 use Rattle.worked_cases.specs.WorkedCases.{fieldBytes, headerWith, toldOf, opens, volume, volumeM, volumeN, mappedTold, tweakTold}
 use Rattle.worked_cases.specs.WorkedCases.{onView, writing, reading, leaving, cases, AsWorked}
@@ -37,7 +37,7 @@ table = refl
 
 output : layoutLines volumeM
     ≡ letters "mark TRUE\nversion 5\nneeds 7\nkind standard\nhost 1048576\nstart 131072\nsize 786432\nsectors 1536\nfirst 256\nlast 1791\n"
-unfolding layoutLines headerLines areaLines sectorLines magicLine kindLine eitherLine numberLine line
+unfolding layoutLines headerLines areaLines sectorLines magicLine kindLine eitherLine numberLine textLine
     decimal digits sectors firstSector lastSector volume volumeM
 output = refl
 

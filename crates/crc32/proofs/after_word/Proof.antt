@@ -1,6 +1,6 @@
 -- `crc32::after_word` meets its contract: one entry of each table stands for a byte.
 -- Assumes nothing.
-use Rattle.crc32.proofs.TableLaws.{tables-word}
+use Rattle.crc32.proofs.CrcTableLaws.{tables-word}
 use borrow.Author.Needs.{needs}
 use Rattle.crc32.proofs.after_word.Statement.{statement}
 use Rattle.crc32.proofs.after_word.Tie as tie

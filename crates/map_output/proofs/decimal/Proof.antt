@@ -8,7 +8,7 @@ use borrow.Author.Needs.{needs}
 use denote.Ref.{now}
 use lib.ListN.{length, drop, length-set}
 use Rattle.map_output.specs.Decimal.{digits, decimal}
-use Rattle.map_output.proofs.DecimalLaws.{digits-none, written-last, written-digit, fewer-digits}
+use Rattle.map_output.proofs.DigitLaws.{digits-none, written-last, written-digit, fewer-digits}
 use Rattle.map_output.proofs.decimal.Statement.{statement}
 use Rattle.map_output.proofs.decimal.Tie as tie
 

@@ -1,7 +1,7 @@
 -- `map_output::layout_lines` meets its contract.
 -- Assumes nothing.
 use Rattle.map_output.specs.MapOutput.{layoutLines}
-use Rattle.map_output.proofs.WrittenLaws.{written-append, written-first}
+use Rattle.map_output.proofs.PutLaws.{written-append, written-first}
 use borrow.Author.Needs.{needs}
 use Rattle.map_output.proofs.layout_lines.Statement.{statement}
 use Rattle.map_output.proofs.layout_lines.Tie as tie

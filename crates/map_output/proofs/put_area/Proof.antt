@@ -1,7 +1,7 @@
 -- `map_output::put_area` meets its contract.
 -- Assumes nothing.
 use Rattle.map_output.specs.MapOutput.{areaLines}
-use Rattle.map_output.proofs.WrittenLaws.{written-append}
+use Rattle.map_output.proofs.PutLaws.{written-append}
 use borrow.Author.Needs.{needs}
 use Rattle.map_output.proofs.put_area.Statement.{statement}
 use Rattle.map_output.proofs.put_area.Tie as tie

@@ -1,7 +1,7 @@
 -- `map_output::put_header` meets its contract.
 -- Assumes nothing.
 use Rattle.map_output.specs.MapOutput.{headerLines}
-use Rattle.map_output.proofs.WrittenLaws.{written-append}
+use Rattle.map_output.proofs.PutLaws.{written-append}
 use borrow.Author.Needs.{needs}
 use Rattle.map_output.proofs.put_header.Statement.{statement}
 use Rattle.map_output.proofs.put_header.Tie as tie

@@ -2,8 +2,8 @@
 -- Assumes nothing.
 use mathlib.Core.List.{[], _∷_}
 use native.Mathlib.Omega.{arith}
-use Rattle.map_output.specs.MapOutput.{line, Written}
-use Rattle.map_output.proofs.WrittenLaws.{written-append, written-within}
+use Rattle.map_output.specs.MapOutput.{textLine, Written}
+use Rattle.map_output.proofs.PutLaws.{written-append, written-within}
 use borrow.Author.Needs.{needs}
 use Rattle.map_output.proofs.put_line.Statement.{statement}
 use Rattle.map_output.proofs.put_line.Tie as tie
@@ -30,7 +30,7 @@ same-length : tie.Need-same-length
 same-length c = search needs
 
 returns : tie.Need-returns
-unfolding line
+unfolding textLine
 returns c =
     let feed = c .before .before in
     let value-done = feed .before .before .before in

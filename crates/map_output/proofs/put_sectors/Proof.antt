@@ -2,7 +2,7 @@
 -- Assumes nothing.
 use Rattle.sector_map.specs.SectorMap.{sectors, firstSector}
 use Rattle.map_output.specs.MapOutput.{sectorLines}
-use Rattle.map_output.proofs.WrittenLaws.{written-append}
+use Rattle.map_output.proofs.PutLaws.{written-append}
 use borrow.Author.Needs.{needs}
 use Rattle.map_output.proofs.put_sectors.Statement.{statement}
 use Rattle.map_output.proofs.put_sectors.Tie as tie

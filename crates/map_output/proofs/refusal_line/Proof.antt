@@ -1,7 +1,7 @@
 -- `map_output::refusal_line` meets its contract.
 -- Assumes nothing.
 use Rattle.map_output.specs.MapOutput.{refusalLine}
-use Rattle.map_output.proofs.WrittenLaws.{written-first}
+use Rattle.map_output.proofs.PutLaws.{written-first}
 use borrow.Author.Needs.{needs}
 use Rattle.map_output.proofs.refusal_line.Statement.{statement}
 use Rattle.map_output.proofs.refusal_line.Tie as tie

@@ -13,7 +13,7 @@ use Rattle.bits.specs.Bits.{entries}
 use Rattle.bits.proofs.EntriesLaws.{length-entries, entries-at}
 use Rattle.crc32.specs.Crc32.{bitStep, bitSteps}
 use Rattle.crc32.specs.Tables.{tablesFrom, crcTables}
-use Rattle.crc32.proofs.StepLaws.{bit-steps-add, bit-steps-split, bit-steps-byte}
+use Rattle.crc32.proofs.BitStepLaws.{bit-steps-add, bit-steps-split, bit-steps-byte}
 
 next-at : (t : List ℕ) (i : ℕ) → getD (map (bitSteps 8) t) i 0 ≡ bitSteps 8 (getD t i 0)
 unfolding bitSteps bitStep
