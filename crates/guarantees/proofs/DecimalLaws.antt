@@ -8,7 +8,7 @@ use mathlib.Core.List.{List, [], _∷_, _++_}
 use lib.ListN.{length, getD, length-append, List·getD-append}
 use lib.Seq.{getD-append-seam}
 use Rattle.map_output.specs.Decimal.{digits, decimal}
-use Rattle.map_output.proofs.DecimalLaws.{digits-more}
+use Rattle.map_output.proofs.DigitLaws.{digits-more}
 use Rattle.guarantees.specs.MapProgram.{spelled, IsDecimal}
 use Rattle.guarantees.proofs.Reflects.{below-suc}
 

@@ -12,7 +12,7 @@ use Rattle.numbers.proofs.NumbersLaws.{big-endian-snoc}
 use Rattle.numbers.proofs.WrittenLaws.{little-endian-bytes-length, little-endian-bytes-lt, little-endian-bytes-spell}
 use Rattle.crc32.specs.Crc32.{crc32, crcFrom, bitSteps, bitStep}
 use Rattle.bits.proofs.XorLaws.{xor-cancel-left}
-use Rattle.crc32.proofs.StepLaws.{crc-from-append}
+use Rattle.crc32.proofs.BitStepLaws.{crc-from-append}
 use Rattle.guarantees.proofs.Reflects.{true-exactly}
 use Rattle.guarantees.proofs.HeaderLaws.{same-bytes-reflects, all-zero-reflects}
 use Rattle.guarantees.specs.Numbers.{SpellsNumbers, ChecksBytes, oneBit, register}

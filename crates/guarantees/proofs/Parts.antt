@@ -1,10 +1,11 @@
 -- What views, reads and writes are made of keeps its rules. Assumes nothing.
 use Prim.Native.Nat.{ℕ, suc, _+_, _-_, _*_, _/_}
 use native.Mathlib.Omega.{arith}
-use mathlib.Core.Path.{_≡_, sym}
+use mathlib.Core.Path.{_≡_, refl, sym}
 use mathlib.Core.Logic.{_↔_}
 use mathlib.Core.Bool.{true}
 use lib.ListN.{length}
+use Rattle.answers.specs.Answers.{isAccepted}
 use Rattle.answers.specs.declared.Numbered.the-variants.{Number}
 use Rattle.copy.specs.Copy.{copied}
 use Rattle.layout.specs.declared.Layout.{Layout}
@@ -15,8 +16,8 @@ use Rattle.sector_map.specs.SectorMap.{hostSector}
 use Rattle.guarantees.specs.Extents.{Within}
 use Rattle.guarantees.specs.Parts.{KeepsParts}
 use Rattle.guarantees.specs.ReferenceModel.{inRange}
-use Rattle.guarantees.specs.SectorMap.{Sound}
-use Rattle.guarantees.specs.Views.{ProtectedRange, SoundRange}
+use Rattle.guarantees.specs.SectorMap.{Sound, InArea}
+use Rattle.guarantees.specs.Views.{area, SoundRange}
 use Rattle.guarantees.proofs.MapLaws.{number-says, host-sector-answers}
 use Rattle.guarantees.proofs.NestLaws.{nests-reflects}
 use Rattle.guarantees.proofs.Reflects.{Reflects, fails, is-true, is-false, true-exactly, reflects-map, reflects-and, reflects-leb}
@@ -40,14 +41,27 @@ sector-reflects layout (Protected first end) s r user host e =
     (λ w. (omega (arith, w .starts, starts, told), omega (arith, w .ends, ends, told)))
     (reflects-and (reflects-leb first (host * 512)) (reflects-leb (suc (host * 512)) end))
 
+-- a sector lies in a data area as a range exactly where its bytes do
+area-reflects : (layout : Layout) (s : Sound layout) (host : ℕ) → Reflects (InArea layout host) (inRange (area layout) host)
+unfolding inRange
+area-reflects layout s host =
+    let a = s .area in
+    reflects-map
+    (λ p. record { starts = p .0; ends = omega (arith, p .1, a .startMultiple, a .sizeMultiple) })
+    (λ i. (i .starts, omega (arith, i .ends)))
+    (reflects-and (reflects-leb (layout .«data_start») (host * 512)) (reflects-leb (suc (host * 512)) (layout .«data_start» + layout .«data_size»)))
+
 pub keeps-parts : (layout hiddenLayout : Layout) (protection : Protection) → KeepsParts layout hiddenLayout protection
-unfolding soundProtection pairAnswer copied
+unfolding soundProtection pairAnswer copied isAccepted
 keeps-parts layout hiddenLayout protection =
     let first = sound-reflects layout in
     let second = sound-reflects hiddenLayout in
     record {
+      acceptance = refl;
+      noAcceptance = λ number. refl;
       soundness = true-exactly (reflects-and first (range-reflects layout protection));
       sectors = λ s r user host e. let both = true-exactly (sector-reflects layout protection s r user host e) in (both .1, both .0);
+      hiddenSectors = λ s host. true-exactly (area-reflects hiddenLayout s host);
       pairNests = λ s t n. simp (is-true first s, is-true second t, is-true (nests-reflects layout hiddenLayout) n);
       pairUnsound = λ f. simp (is-false (reflects-and first second) f);
       pairApart = λ s t f. simp (is-true first s, is-true second t, is-false (nests-reflects layout hiddenLayout) f);

@@ -1,6 +1,6 @@
 -- Reads and writes on any view, made-up ones too (RULES.md, Reads and writes): 11 exactly for an unsound view, and else the table of
--- refusals, with 18 over the host sectors that the map gives; and what each call leaves, sector by sector. `viewRead`, `viewWrite`,
--- `viewFilled`, `viewWritten`, `ReadPost` and `WritePost` are the definitions that the contracts of `view` and `ondristela` cite. Assumes nothing.
+-- refusals, with 18 over the host sectors that the map gives; and what each call leaves, sector by sector. `readAnswer`, `writeAnswer`,
+-- `filledBy`, `writtenBy`, `ReadPost` and `WritePost` are the definitions that the contracts of `access` and `view` cite. Assumes nothing.
 use Prim.Native.Nat.{ℕ}
 use mathlib.Core.Path.{_≡_}
 use mathlib.Core.Bool.{Bool}
@@ -8,7 +8,9 @@ use mathlib.Core.List.{List}
 use lib.ListN.{length}
 use Rattle.answers.specs.declared.Answer.{Answer}
 use Rattle.answers.specs.declared.Answer.the-variants.{Refused}
-use Rattle.view.specs.Outcomes.{viewRead, viewWrite, viewFilled, viewWritten, ReadPost, WritePost}
+use Rattle.access.specs.Judging.{readAnswer, writeAnswer}
+use Rattle.access.specs.Moving.{filledBy, writtenBy}
+use Rattle.view.specs.Outcomes.{ReadPost, WritePost}
 use Rattle.view.specs.declared.Outcome.{Outcome}
 use Rattle.view.specs.declared.View.{View}
 use Rattle.model.specs.Model.{Rules, bufferAfter, imageAfter}
@@ -26,10 +28,17 @@ module _ (view : View) (image : List ℕ) (first count : ℕ) (buffer : List ℕ
 
   -- the answer to a read, and to a write
   abbrev pub readBy : Answer
-  readBy = viewRead view (length image) first count (length buffer)
+  readBy = readAnswer (view .layout) (view .protection) (length image) first count (length buffer)
 
   abbrev pub writeBy : Answer
-  writeBy = viewWrite view (length image) first count (length buffer)
+  writeBy = writeAnswer (view .layout) (view .protection) (view .locked) (length image) first count (length buffer)
+
+  -- the buffer after the read, and the image after the write
+  abbrev pub filledWith : List ℕ
+  filledWith = filledBy readBy (view .layout) image first count buffer
+
+  abbrev pub writtenWith : List ℕ
+  writtenWith = writtenBy writeBy (view .layout) image first buffer
 
   -- the claim
   pub record AccessesByTable : Type 0 where
@@ -39,12 +48,12 @@ module _ (view : View) (image : List ℕ) (first count : ℕ) (buffer : List ℕ
     pub readTabled : SoundView view → readBy ≡ rules .judge (call reads) (view .locked) (length image)
     pub writeTabled : SoundView view → writeBy ≡ rules .judge (call writes) (view .locked) (length image)
     -- the bytes: a read's buffer and a write's image
-    pub filled : viewFilled view image first count buffer ≡ bufferAfter rules (call reads) readBy image
-    pub written : viewWritten view image first count buffer ≡ imageAfter rules (call writes) writeBy image
+    pub filled : filledWith ≡ bufferAfter rules (call reads) readBy image
+    pub written : writtenWith ≡ imageAfter rules (call writes) writeBy image
     -- what the calls of the view hand back: the answer, and the view, which only a write's 18 changes
     pub readBack : (outcome : Outcome) (after : List ℕ) → ReadPost view image first count buffer outcome after
-        → (outcome .answer ≡ readBy) × (outcome .view ≡ view) × (after ≡ viewFilled view image first count buffer)
+        → (outcome .answer ≡ readBy) × (outcome .view ≡ view) × (after ≡ filledWith)
     pub writeBack : (outcome : Outcome) (after : List ℕ) → WritePost view image first count buffer outcome after
         → (outcome .answer ≡ writeBy)
         × (outcome .view ≡ record { layout = view .layout; protection = view .protection; locked = lockLeft writeBy (view .locked) })
-        × (after ≡ viewWritten view image first count buffer)
+        × (after ≡ writtenWith)

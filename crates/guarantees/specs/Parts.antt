@@ -1,12 +1,13 @@
--- What views, reads and writes are made of, each call by itself: the soundness of what is protected, its user sectors, a pair of layouts, the
--- lock after a write, and the copy. The definitions are those that the contracts of `protection`, `access` and `copy` cite. Assumes nothing.
+-- What views, reads and writes are made of, each by itself: an acceptance, the soundness of what is protected, its user sectors, a pair of
+-- layouts, the lock after a write, and the copy. The definitions are those that the contracts of `protection`, `access` and `copy` cite. Assumes nothing.
 use Prim.Native.Nat.{ℕ, _≤_}
 use mathlib.Core.Path.{_≡_}
 use mathlib.Core.Logic.{_↔_}
-use mathlib.Core.Bool.{Bool, true}
+use mathlib.Core.Bool.{Bool, true, false}
 use mathlib.Core.List.{List, _++_}
 use lib.ListN.{length, drop}
 use Rattle.access.specs.Judging.{lockedAfter}
+use Rattle.answers.specs.Answers.{isAccepted}
 use Rattle.answers.specs.declared.Answer.{Answer}
 use Rattle.answers.specs.declared.Answer.the-variants.{Accepted, Refused}
 use Rattle.answers.specs.declared.Numbered.the-variants.{Number}
@@ -17,16 +18,21 @@ use Rattle.protection.specs.declared.Protection.{Protection}
 use Rattle.sector_map.specs.SectorMap.{hostSector}
 use Rattle.guarantees.specs.Extents.{Within}
 use Rattle.guarantees.specs.ReferenceModel.{inRange, lockLeft}
-use Rattle.guarantees.specs.SectorMap.{Sound}
-use Rattle.guarantees.specs.Views.{SoundRange, Nested}
+use Rattle.guarantees.specs.SectorMap.{Sound, InArea}
+use Rattle.guarantees.specs.Views.{area, SoundRange, Nested}
 
 -- the claim, for any two layouts and any protection
 pub record KeepsParts (layout hiddenLayout : Layout) (protection : Protection) : Type 0 where
+  -- an acceptance is one, and no refusal is
+  pub acceptance : isAccepted Accepted ≡ true
+  pub noAcceptance : (number : ℕ) → isAccepted (Refused number) ≡ false
   -- sound exactly where the layout is and its protected range
   pub soundness : (soundProtection layout protection ≡ true) ↔ (Sound layout × SoundRange layout protection)
   -- a user sector is a protected one exactly where its host sector lies in the range
   pub sectors : Sound layout → SoundRange layout protection → (user host : ℕ) → hostSector layout user ≡ Number host
       → Within (protectedExtent layout protection) user ↔ (inRange protection host ≡ true)
+  -- the sectors of a hidden data area as a range are those that its volume's map has
+  pub hiddenSectors : Sound hiddenLayout → (host : ℕ) → (inRange (area hiddenLayout) host ≡ true) ↔ InArea hiddenLayout host
   -- a pair: 11 if either is unsound, then 12 unless they nest
   pub pairNests : Sound layout → Sound hiddenLayout → Nested layout hiddenLayout → pairAnswer layout hiddenLayout ≡ Accepted
   pub pairUnsound : (Sound layout × Sound hiddenLayout → ⊥) → pairAnswer layout hiddenLayout ≡ Refused 11
