@@ -12,7 +12,7 @@ sys.dont_write_bytecode = True
 sys.path.insert(0, str(Path(__file__).resolve().parent.parent / 'tools'))
 import rules  # noqa: E402
 from claims import PAGE, all_problems, called, claim_problems, is_call_row, problems  # noqa: E402
-from named import CLAIMS, GUARANTEES, ROOT, read_files, read_repository, rows  # noqa: E402
+from named import CLAIMING, CLAIMS, GUARANTEES, ROOT, read_files, read_repository, rows  # noqa: E402
 
 RECORD = 'pub record Claims : Type 0 where\n  -- a claim\n  pub stated : ℕ\n  pub forgotten : ℕ\n'
 
@@ -98,8 +98,8 @@ def wrong_rules(page):
     yield from wrong_files(page)
     yield from with_ends(page, [
         '- `Tells.veraTold`, `.nothing`', '- `Tells.veraTold`, `judge`, `.trueTold`', '- `Tells.veraTold`\n- `.trueTold`',
-        '`Keeps nothing`', '`refused 2`', '`sum_wraps`', '| edit |\n|---|\n| `sum_wraps` |', '| claim |\n|---|\n| `judge` |',
-        '| definition (layout/specs/Rules.antt) |\n|---|\n| `judge` |', '- definition: none; claim: `judge`',
+        '`Keeps nonesuch`', '`refused 2`', '`sum_wraps`', '| edit |\n|---|\n| `sum_wraps` |', '| claim |\n|---|\n| `magicOf` |',
+        '| definition (layout/specs/Rules.antt) |\n|---|\n| `judge` |', '- definition: none; claim: `magicOf`',
         '- definition: `Tells.nothing` (layout/specs/Rules.antt); claim: `Tells`', 'One `name\nin two` lines.'])
 
 
@@ -119,8 +119,8 @@ def function_problems(page, files):
 
 
 def told(repository):
-    """A page with a made-up record's fields and every edit of guarantees."""
-    edits = ', '.join(f'`{edit}`' for edit in sorted(repository.crates[GUARANTEES].edits))
+    """A page with a made-up record's fields and every edit of the crates of claims."""
+    edits = ', '.join(f'`{crate}/{edit}`' for crate in CLAIMING for edit in sorted(repository.crates[crate].edits))
     return f'`Claims.forgotten`\n\n| field of `Claims` | edits |\n|---|---|\n| `stated` | {edits} |\n'
 
 
