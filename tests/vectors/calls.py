@@ -13,8 +13,8 @@ def plain(slot, fields=layout(), answer=MADE):
     return answer, {'request': PLAIN, 'slot': slot, 'text': 'plain', 'layouts': [fields]}
 
 
-def protect(slot, outer=layout(), inner=hidden_layout(), answer=MADE):
-    return answer, {'request': PROTECTED, 'slot': slot, 'text': 'protected', 'layouts': [outer, inner]}
+def protect(slot, outer=layout(), hidden=hidden_layout(), answer=MADE):
+    return answer, {'request': PROTECTED, 'slot': slot, 'text': 'protected', 'layouts': [outer, hidden]}
 
 
 def make_up(slot, made_up):

@@ -84,6 +84,6 @@ PAIR_CALLS = [
 def making_groups():
     for name, made_up in UNSOUND_VIEWS:
         yield f'unsound, {name}', [make_up(0, made_up), *both(0, 11, (0, 1), (1_024, 0))]
-    for name, answer, outer, inner in PAIRS:
-        yield f'pair, {name}', [protect(1, outer, inner, answer)]
+    for name, answer, outer, hidden in PAIRS:
+        yield f'pair, {name}', [protect(1, outer, hidden, answer)]
     yield from PAIR_CALLS

@@ -37,12 +37,12 @@ def plain_view(fields):
     return view(fields) if is_sound(fields) else 11
 
 
-def protected_view(outer, inner):
-    if not (is_sound(outer) and is_sound(inner)):
+def protected_view(outer, hidden):
+    if not (is_sound(outer) and is_sound(hidden)):
         return 11
-    nests = (outer['kind'] == 0 and inner['kind'] == 1 and outer['host_size'] == inner['host_size']
-             and all(sector in area(outer) for sector in area(inner)))
-    return view(outer, (inner['data_start'], inner['data_start'] + inner['data_size'])) if nests else 12
+    nests = (outer['kind'] == 0 and hidden['kind'] == 1 and outer['host_size'] == hidden['host_size']
+             and all(sector in area(outer) for sector in area(hidden)))
+    return view(outer, (hidden['data_start'], hidden['data_start'] + hidden['data_size'])) if nests else 12
 
 
 def filled(size, seed):

@@ -13,7 +13,7 @@ use Rattle.model.proofs.Independence.{run-independent}
 use Rattle.model.proofs.Lawful.{sided-lawful}
 use Rattle.model.proofs.RunLaws.{Models, run-exists, run-agrees, run-last-write, run-reads-left}
 use Rattle.model.proofs.SideLaws.{sided-models, on-side-exists}
-use Rattle.guarantees.specs.Interleaving.{Step, sideLayout, sideProtection, sideView, sideRules, rules, Interleaved, Demand3}
+use Rattle.guarantees.specs.Interleaving.{Step, sideLayout, sideProtection, sideView, sideRules, bothRules, Interleaved, Demand3}
 use Rattle.guarantees.specs.ReferenceModel.{isWrite, inRange, viewRules}
 use Rattle.guarantees.specs.Table.{Call}
 use Rattle.guarantees.specs.Views.{area}
@@ -38,15 +38,15 @@ module _ (outerLayout hiddenLayout : Layout) (nest : Nest outerLayout hiddenLayo
       record {
         runs = λ turns merged. run-exists (OnSide Step) (on-side-exists Step step-exists) (stateWith view model) turns;
         agrees = λ turns answers last merged run.
-            let same = run-agrees (rules outerLayout hiddenLayout) view (OnSide Step) models model run in
+            let same = run-agrees (bothRules outerLayout hiddenLayout) view (OnSide Step) models model run in
             record {
               sameReplies = same .0;
               sameImage = ap (λ (state : State (Both View)). state .image) (same .1);
               sameViews = ap (λ (state : State (Both View)). state .held) (same .1);
             };
-        lastWrite = λ turns answers last merged run. run-last-write (rules outerLayout hiddenLayout) view (OnSide Step) models together model run;
+        lastWrite = λ turns answers last merged run. run-last-write (bothRules outerLayout hiddenLayout) view (OnSide Step) models together model run;
         readsLeft = λ before turn after answers given middle next merged run one isRead accepted.
-            run-reads-left (rules outerLayout hiddenLayout) view (OnSide Step) models together model run turn given next one (ap isWrite isRead)
+            run-reads-left (bothRules outerLayout hiddenLayout) view (OnSide Step) models together model run turn given next one (ap isWrite isRead)
             (ap isAccepted accepted);
         independent = λ turns others answers otherAnswers last otherLast merged otherwise run other.
             let same =

@@ -54,24 +54,24 @@ module _ (outerLayout hiddenLayout : Layout) where
   sideRules side = viewRules (sideLayout side) (sideProtection side)
 
   -- the model's rules
-  abbrev pub rules : Rules (Turn Call) (Both Bool) Answer
-  rules = sided sideRules
+  abbrev pub bothRules : Rules (Turn Call) (Both Bool) Answer
+  bothRules = sided sideRules
 
   -- both views with a model's locks, over its image
   abbrev pub viewsOf : State (Both Bool) → State (Both View)
   viewsOf model = stateWith (eachWith sideView) model
 
   -- an outer call's reply, but for what a read gives of the protected sectors
-  abbrev pub shown : Call × Reply Answer → Answer × List (List ℕ)
-  shown = unprotected (sideRules outer) (inRange (area hiddenLayout))
+  abbrev pub outsideProtected : Call × Reply Answer → Answer × List (List ℕ)
+  outsideProtected = unprotected (sideRules outer) (inRange (area hiddenLayout))
 
   -- from a model's start: an image of any length and content, and each lock open or closed
   module _ (model : State (Both Bool)) where
     -- a run is the reference model's: replies, image and locks; layouts and ranges are as they began
     pub record Agrees (turns : List (Turn Call)) (answers : List (Reply Answer)) (last : State (Both View)) : Type 0 where
-      pub sameReplies : answers ≡ replies rules turns model
-      pub sameImage : last .image ≡ final rules turns model .image
-      pub sameViews : last .held ≡ eachWith sideView (final rules turns model .held)
+      pub sameReplies : answers ≡ replies bothRules turns model
+      pub sameImage : last .image ≡ final bothRules turns model .image
+      pub sameViews : last .held ≡ eachWith sideView (final bothRules turns model .held)
 
     -- a run from there: each call finds its view and the image as the calls before it left them
     abbrev pub Runs : List (Turn Call) → List (Reply Answer) → State (Both View) → Type 0
@@ -81,7 +81,7 @@ module _ (outerLayout hiddenLayout : Layout) where
     pub record Independent (turns others : List (Turn Call)) (answers otherAnswers : List (Reply Answer)) (last otherLast : State (Both View)) : Type 0 where
       pub sameEnd : last ≡ otherLast
       pub hiddenReplies : map (λ r. r .1) (at hidden (bySide turns answers)) ≡ map (λ r. r .1) (at hidden (bySide others otherAnswers))
-      pub outerReplies : map shown (at outer (bySide turns answers)) ≡ map shown (at outer (bySide others otherAnswers))
+      pub outerReplies : map outsideProtected (at outer (bySide turns answers)) ≡ map outsideProtected (at outer (bySide others otherAnswers))
 
     -- the claim, for any two lists
     pub record Interleaved (xs ys : List Call) : Type 0 where
@@ -92,14 +92,14 @@ module _ (outerLayout hiddenLayout : Layout) where
           → Runs turns answers last → Agrees turns answers last
       -- each sector ends with the last accepted write that covers it, or as it began
       pub lastWrite : (turns : List (Turn Call)) (answers : List (Reply Answer)) (last : State (Both View)) → Interleaves xs ys turns
-          → Runs turns answers last → (host : ℕ) → sectorAt host (last .image) ≡ contents rules host turns answers (sectorAt host (model .image))
+          → Runs turns answers last → (host : ℕ) → sectorAt host (last .image) ≡ contents bothRules host turns answers (sectorAt host (model .image))
       -- an accepted read gives each sector as the accepted writes before it left it, or as it began
       pub readsLeft : (before : List (Turn Call)) (turn : Turn Call) (after : List (Turn Call)) (answers : List (Reply Answer)) (given : Reply Answer)
           (middle next : State (Both View)) → Interleaves xs ys (before ++ (turn ∷ after))
           → Runs before answers middle → OnSide Step middle turn given next
           → turn .call .operation ≡ reads → given .answer ≡ Accepted
           → given .buffer
-          ≡ gather (λ host. contents rules host before answers (sectorAt host (model .image))) (hostsOf (sideLayout (turn .side)) (turn .call))
+          ≡ gather (λ host. contents bothRules host before answers (sectorAt host (model .image))) (hostsOf (sideLayout (turn .side)) (turn .call))
       -- any two interleavings end alike, and give each list the same, but for what outer reads give of protected sectors
       pub independent : (turns others : List (Turn Call)) (answers otherAnswers : List (Reply Answer)) (last otherLast : State (Both View))
           → Interleaves xs ys turns → Interleaves xs ys others → Runs turns answers last → Runs others otherAnswers otherLast
