@@ -43,7 +43,7 @@ put hidden one both = record { outerOne = both .outerOne; hiddenOne = one }
 unfoldable pub eachWith : {A B : Type 0} → (Side → A → B) → Both A → Both B
 eachWith other both = record { outerOne = other outer (both .outerOne); hiddenOne = other hidden (both .hiddenOne) }
 
--- a call that keeps its contract: it finds its view as its side's last call left it, and the image as the last call on either side did
+-- a call that keeps its contract: its view is as the call before it on its side left it, and the image as the latest of all calls did
 pub record OnSide {Held Call Given : Type 0} (Step : State Held → Call → Given → State Held → Type 0)
     (state : State (Both Held)) (call : Turn Call) (given : Given) (after : State (Both Held)) : Type 0 where
   pub left : State Held

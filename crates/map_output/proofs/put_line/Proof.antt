@@ -39,8 +39,8 @@ returns c =
     let space = space-done .before .before in
     let label-done = space .before .before .before in
     let label = label-done .before .before in
-    let lent = label .before .before in
-    let start = lent .before .before .before in
+    let handed = label .before .before in
+    let start = handed .before .before .before in
     let fed : Written 1 (10 ∷ []) _ _ _ _ = feed .put4 .ensures in
     let labelled = written-append (label .put .ensures) (space .put2 .ensures) in
     written-within (omega (arith, start .pre)) (written-append (written-append labelled (value .put3 .ensures)) fed)

@@ -33,8 +33,8 @@ returns : tie.Need-returns
 unfolding numberLine
 returns c =
     let call = c .before .before in
-    let lent = call .before .before in
-    let d = lent .before .before .decimal in
+    let handed = call .before .before in
+    let d = handed .before .before .decimal in
     let bytes : List ℕ = d .last .1 .0 in
     let rest : length (drop (d .result) bytes) ≤ 20 - d .result = simp length-drop (omega (arith, d .ensures .size)) in
     let whole : take (20 - d .result) (drop (d .result) bytes) ≡ drop (d .result) bytes = take-all _ _ rest in
