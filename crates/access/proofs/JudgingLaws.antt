@@ -2,24 +2,17 @@
 -- Assumes nothing.
 use Prim.Native.Nat.{ℕ, suc, _+_, _-_, _*_, _≤_}
 use native.Mathlib.Omega.{arith}
-use mathlib.Core.Path.{_≡_, sym, _∙_}
-use mathlib.Core.Bool.{Bool, true, false, not}
+use mathlib.Core.{Path.{_≡_, sym, _∙_}, Bool.{Bool, true, false, not}}
 use lib.Dec.{leb, eqb}
 use borrow.Author.Tests.{leb-true, eqb-true, le-leb, eq-eqb}
-use Rattle.answers.specs.Answers.{line}
-use Rattle.answers.specs.declared.Answer.{Answer}
-use Rattle.answers.specs.declared.Answer.the-variants.{Accepted, Refused}
+use Rattle.answers.specs.{Answers.line, declared.Answer.{Answer, the-variants.{Accepted, Refused}}}
 use Rattle.answers.proofs.AnswerLaws.{refused-accepted, line-accepted, line-holds}
 use Rattle.copy.specs.Copy.{maxSize}
-use Rattle.extent.specs.declared.Overlap.{Overlap}
-use Rattle.extent.specs.declared.Overlap.the-variants.{Apart, From}
-use Rattle.layout.specs.Rules.{sectorBytes}
-use Rattle.layout.specs.Soundness.{sound}
-use Rattle.layout.specs.declared.Layout.{Layout}
+use Rattle.extent.specs.declared.Overlap.{Overlap, the-variants.{Apart, From}}
+use Rattle.layout.specs.{Rules.{sectorBytes, sound}, declared.Layout.Layout}
 use Rattle.layout.proofs.RuleLaws.{and-true-left, sound-ends}
 use Rattle.layout.proofs.TestLaws.{leb-iff}
-use Rattle.protection.specs.Protection.{protectionRule, soundProtection}
-use Rattle.protection.specs.declared.Protection.{Protection}
+use Rattle.protection.specs.{Protection.{protectionRule, soundProtection}, declared.Protection.Protection}
 use Rattle.sector_map.specs.SectorMap.{sectors}
 use Rattle.access.specs.Judging.{maxCount, checked, apartAnswer, lockAnswer, readAnswer, writeAnswer}
 use Rattle.access.specs.Moving.{extentStart}

@@ -3,18 +3,13 @@
 use Prim.Native.Nat.{ℕ, _+_, _-_, _*_, _≤_}
 use native.Mathlib.Omega.{arith}
 use native.Mathlib.Nat.{add-sub-cancel-left}
-use mathlib.Core.Path.{_≡_, refl, sym, ap, _∙_}
-use mathlib.Core.List.{List, _++_, append-nil, append-assoc}
-use lib.ListN.{length, take, drop, drop-of-length-le, length-drop}
-use lib.Seq.{take-all, length-take-le, drop-drop}
+use mathlib.Core.{Path.{_≡_, refl, sym, ap, _∙_}, List.{List, _++_, append-nil, append-assoc}}
+use lib.{ListN.{length, take, drop, drop-of-length-le, length-drop}, Seq.{take-all, length-take-le, drop-drop}}
 use borrow.Author.Tests.{le-leb}
 use borrow.Rule.Slice.PartMut.{putMid}
-use Rattle.answers.specs.Answers.{isAccepted}
-use Rattle.answers.specs.declared.Answer.{Answer}
-use Rattle.answers.specs.declared.Answer.the-variants.{Accepted, Refused}
+use Rattle.answers.specs.{Answers.isAccepted, declared.Answer.{Answer, the-variants.{Accepted, Refused}}}
 use Rattle.copy.specs.Copy.{maxSize, copied}
-use Rattle.layout.specs.Rules.{sectorBytes}
-use Rattle.layout.specs.declared.Layout.{Layout}
+use Rattle.layout.specs.{Rules.sectorBytes, declared.Layout.Layout}
 use Rattle.access.specs.Moving.{extentStart, overlay, filledBy, writtenBy}
 
 -- a part of an image that starts at an offset

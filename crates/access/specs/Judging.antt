@@ -3,16 +3,10 @@
 use Prim.Native.Nat.{ℕ, _+_, _*_}
 use mathlib.Core.Bool.{Bool, true, false, not, cond}
 use lib.Dec.{leb, eqb}
-use Rattle.answers.specs.Answers.{line}
-use Rattle.answers.specs.declared.Answer.{Answer}
-use Rattle.answers.specs.declared.Answer.the-variants.{Accepted, Refused}
-use Rattle.extent.specs.Extents.{overlap}
-use Rattle.extent.specs.declared.Overlap.{Overlap}
-use Rattle.extent.specs.declared.Overlap.the-variants.{Apart, From}
-use Rattle.layout.specs.Rules.{sectorBytes}
-use Rattle.layout.specs.declared.Layout.{Layout}
-use Rattle.protection.specs.Protection.{soundProtection, protectedExtent}
-use Rattle.protection.specs.declared.Protection.{Protection}
+use Rattle.answers.specs.{Answers.line, declared.Answer.{Answer, the-variants.{Accepted, Refused}}}
+use Rattle.extent.specs.{Extents.overlap, declared.Overlap.{Overlap, the-variants.{Apart, From}}}
+use Rattle.layout.specs.{Rules.sectorBytes, declared.Layout.Layout}
+use Rattle.protection.specs.{Protection.{soundProtection, protectedExtent}, declared.Protection.Protection}
 use Rattle.sector_map.specs.SectorMap.{sectors}
 
 -- the most sectors of one call

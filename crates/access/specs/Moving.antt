@@ -1,13 +1,10 @@
 -- What reads and writes move (RULES.md, Reads and writes): an extent's first byte in the host, and the buffer and the image after a call
 -- by its answer. What the contracts of `access` cite. Assumes nothing.
 use Prim.Native.Nat.{ℕ, _+_, _*_}
-use mathlib.Core.Bool.{cond}
-use mathlib.Core.List.{List, _++_}
+use mathlib.Core.{Bool.cond, List.{List, _++_}}
 use lib.ListN.{length, take, drop}
-use Rattle.answers.specs.Answers.{isAccepted}
-use Rattle.answers.specs.declared.Answer.{Answer}
-use Rattle.layout.specs.Rules.{sectorBytes}
-use Rattle.layout.specs.declared.Layout.{Layout}
+use Rattle.answers.specs.{Answers.isAccepted, declared.Answer.Answer}
+use Rattle.layout.specs.{Rules.sectorBytes, declared.Layout.Layout}
 
 -- the first byte of an extent in the host: O and 512 for each user sector before it
 unfoldable pub extentStart : Layout → ℕ → ℕ

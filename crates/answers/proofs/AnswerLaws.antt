@@ -1,10 +1,8 @@
 -- No refusal is an acceptance, whatever its number.
 -- Assumes nothing.
 use Prim.Native.Nat.{ℕ}
-use mathlib.Core.Path.{_≡_, refl, sym, ap}
-use mathlib.Core.Bool.{Bool, true, false, true≢false}
-use Rattle.answers.specs.Answers.{line, isAccepted}
-use Rattle.answers.specs.declared.Answer.{Answer}
+use mathlib.Core.{Path.{_≡_, refl, sym, ap}, Bool.{Bool, true, false, true≢false}}
+use Rattle.answers.specs.{Answers.{line, isAccepted}, declared.Answer.Answer}
 use Rattle.answers.specs.declared.Answer.the-variants.{Accepted, Refused}
 
 pub refused-accepted : {A : Type 0} (number : ℕ) → Refused number ≡ Accepted → A

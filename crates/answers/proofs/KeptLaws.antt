@@ -1,6 +1,5 @@
 -- Checks in order: what the answer is where a line is kept, and where it is broken. Assumes nothing.
-use mathlib.Core.Path.{_≡_}
-use mathlib.Core.Bool.{Bool, true, false}
+use mathlib.Core.{Path._≡_, Bool.{Bool, true, false}}
 use Rattle.answers.specs.Answers.{line}
 
 module _ {A : Type 0} {kept : Bool} (refused later : A) where

@@ -2,9 +2,8 @@
 -- judgement above it. Assumes nothing.
 use Prim.Native.Nat.{ℕ}
 use mathlib.Core.Bool.{Bool, true, false, cond}
-use Rattle.answers.specs.declared.Answer.{Answer}
+use Rattle.answers.specs.declared.{Answer.Answer, Numbered.Numbered}
 use Rattle.answers.specs.declared.Answer.the-variants as answer
-use Rattle.answers.specs.declared.Numbered.{Numbered}
 use Rattle.answers.specs.declared.Numbered.the-variants as numbered
 
 -- one check of several in order: what it refuses with where it is not kept, else what the later ones say

@@ -1,13 +1,11 @@
 -- A read or write on the view that twelve numbers tell keeps the contract of the exported function over those numbers.
 -- Assumes nothing.
 use Prim.Native.Nat.{ℕ}
-use mathlib.Core.Path.{_≡_, sym, ap, _∙_}
-use mathlib.Core.List.{List}
+use mathlib.Core.{Path.{_≡_, sym, ap, _∙_}, List.List}
 use lib.ListN.{length}
 use Rattle.answers.specs.Answers.{answerRefusal}
 use Rattle.view.specs.Outcomes.{viewRead, viewWrite, viewFilled, viewWritten, ReadPost, WritePost}
-use Rattle.view.specs.declared.Outcome.{Outcome}
-use Rattle.view.specs.declared.View.{View}
+use Rattle.view.specs.declared.{Outcome.Outcome, View.View}
 use Rattle.boundary_numbers.specs.BoundaryNumbers.{viewFrom}
 use Rattle.boundary_access.specs.BoundaryAccess.{viewLeft, ReadCall, WriteCall}
 

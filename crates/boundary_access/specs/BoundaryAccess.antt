@@ -1,10 +1,7 @@
 -- Reads and writes on a view's numbers (RULES.md, Boundary): what the contracts of `read` and `write` cite. Assumes nothing.
 use Prim.Native.Nat.{ℕ}
-use mathlib.Core.Path.{_≡_}
-use mathlib.Core.Bool.{cond}
-use mathlib.Core.List.{List}
-use lib.Dec.{eqb}
-use lib.ListN.{length, set}
+use mathlib.Core.{Path._≡_, Bool.cond, List.List}
+use lib.{Dec.eqb, ListN.{length, set}}
 use Rattle.answers.specs.Answers.{answerRefusal}
 use Rattle.view.specs.Outcomes.{viewRead, viewWrite, viewFilled, viewWritten}
 use Rattle.boundary_numbers.specs.BoundaryNumbers.{lockIndex, viewFrom}

@@ -1,8 +1,7 @@
 -- A call that returns an answer's refusal number and stores what the answer holds does so for what the answer is.
 -- Assumes nothing.
 use Prim.Native.Nat.{ℕ}
-use mathlib.Core.Path.{_≡_, ap, _∙_}
-use mathlib.Core.List.{List}
+use mathlib.Core.{Path.{_≡_, ap, _∙_}, List.List}
 
 -- how an answer's refusal number is returned, and what is left of what was there
 module _ {R : Type 0} (refusal : R → ℕ) (left : R → List ℕ → List ℕ) {answer : R} {number : ℕ} {stored before : List ℕ} where

@@ -2,15 +2,11 @@
 -- Assumes nothing.
 use Prim.Native.Nat.{ℕ, _+_}
 use native.Mathlib.Omega.{arith}
-use mathlib.Core.Path.{_≡_, refl, ap, _∙_}
-use mathlib.Core.Bool.{Bool, true, false, cond}
-use mathlib.Core.List.{List, [], _∷_, _++_, append-nil}
-use lib.ListN.{length, getD, drop, length-drop, drop-of-length-le}
-use lib.Seq.{sets, sets-eq}
+use mathlib.Core.{Path.{_≡_, refl, ap, _∙_}, Bool.{Bool, true, false, cond}, List.{List, [], _∷_, _++_, append-nil}}
+use lib.{ListN.{length, getD, drop, length-drop, drop-of-length-le}, Seq.{sets, sets-eq}}
 use mir.Val.{boolByte}
 use Rattle.layout.specs.declared.Layout.{Layout}
-use Rattle.protection.specs.declared.Protection.{Protection}
-use Rattle.protection.specs.declared.Protection.the-variants.{Unprotected, Protected}
+use Rattle.protection.specs.declared.Protection.{Protection, the-variants.{Unprotected, Protected}}
 use Rattle.view.specs.declared.View.{View}
 use Rattle.boundary_numbers.specs.BoundaryNumbers.{layoutSize, layoutNumbers, protectionNumbers, viewNumbers}
 

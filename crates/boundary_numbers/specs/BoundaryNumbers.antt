@@ -1,19 +1,14 @@
 -- Layouts and views as numbers, and what an answer that holds one leaves in the numbers passed for it (RULES.md, Boundary): what the
 -- contracts of `boundary_numbers` and of every exported function cite. Assumes nothing.
 use Prim.Native.Nat.{ℕ, _+_}
-use mathlib.Core.Bool.{not, cond}
-use mathlib.Core.List.{List, [], _∷_, _++_}
-use lib.Dec.{eqb}
-use lib.ListN.{getD}
+use mathlib.Core.{Bool.{not, cond}, List.{List, [], _∷_, _++_}}
+use lib.{Dec.eqb, ListN.getD}
 use Rattle.answers.specs.declared.Numbered.{Numbered}
 use Rattle.answers.specs.declared.Numbered.the-variants as numbered
-use Rattle.layout.specs.declared.Layout.{Layout}
-use Rattle.layout.specs.declared.Opened.{Opened}
+use Rattle.layout.specs.declared.{Layout.Layout, Opened.Opened}
 use Rattle.layout.specs.declared.Opened.the-variants as opened
-use Rattle.protection.specs.declared.Protection.{Protection}
-use Rattle.protection.specs.declared.Protection.the-variants.{Unprotected, Protected}
-use Rattle.view.specs.declared.View.{View}
-use Rattle.view.specs.declared.Viewed.{Viewed}
+use Rattle.protection.specs.declared.Protection.{Protection, the-variants.{Unprotected, Protected}}
+use Rattle.view.specs.declared.{View.View, Viewed.Viewed}
 use Rattle.view.specs.declared.Viewed.the-variants as viewed
 
 -- how many numbers a layout has

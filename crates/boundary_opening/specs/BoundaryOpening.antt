@@ -1,8 +1,7 @@
 -- What the contract of `keys` cites (RULES.md, Boundary). Assumes nothing.
 use Prim.Native.Nat.{ℕ}
 use mathlib.Core.List.{List, [], _∷_}
-use Rattle.layout.specs.declared.Opened.{Opened}
-use Rattle.layout.specs.declared.Opened.the-variants.{Accepted, Refused}
+use Rattle.layout.specs.declared.Opened.{Opened, the-variants.{Accepted, Refused}}
 use Rattle.opening.specs.Opening.{keysOffset, keysSize}
 
 -- what the call for the key bytes leaves: their offset and length within the candidates, or the numbers as they were

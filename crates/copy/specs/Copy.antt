@@ -1,9 +1,7 @@
 -- Bytes copied over the start of others. What the contract of `copy::copy` cites. Assumes nothing.
 use Prim.Native.Nat.{ℕ}
-use mathlib.Core.Bool.{_&&_, cond}
-use mathlib.Core.List.{List, _++_}
-use lib.Dec.{leb}
-use lib.ListN.{length, drop}
+use mathlib.Core.{Bool.{_&&_, cond}, List.{List, _++_}}
+use lib.{Dec.leb, ListN.{length, drop}}
 
 -- the most bytes of one copy
 abbrev pub maxSize : ℕ

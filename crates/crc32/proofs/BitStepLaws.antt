@@ -1,12 +1,10 @@
 -- The register's steps: they are linear in exclusive-or, and several bytes are as many steps of one number.
 -- Assumes nothing.
-use mathlib.Core.Path.{_≡_, refl, sym, ap, _∙_}
-use mathlib.Core.List.{List, [], _∷_, _++_}
+use mathlib.Core.{Path.{_≡_, refl, sym, ap, _∙_}, List.{List, [], _∷_, _++_}}
 use Prim.Native.Nat.{ℕ, zero, suc, _+_, _*_, _/_, _%_, _^_, _<_}
 use native.Mathlib.Nat.{mod-lt, zero-mul, zero-add, suc-add, mul-one}
 use native.Mathlib.Omega.{arith}
-use lib.Bits.{bitXor, differ, xor-comm, xor-self, xor-zero-r, xor-shifted, shifted-half, shifted-even}
-use lib.ListN.{length}
+use lib.{Bits.{bitXor, differ, xor-comm, xor-self, xor-zero-r, xor-shifted, shifted-half, shifted-even}, ListN.length}
 use lib.Pow.{split, pow-pos}
 use Rattle.numbers.specs.Numbers.{littleEndian}
 use Rattle.crc32.specs.Crc32.{bitStep, bitSteps, crcFrom}

@@ -1,18 +1,14 @@
 -- The tables hold what they are named for, and one entry of each stands for a byte of a word.
 -- Assumes nothing.
-use mathlib.Core.Path.{_≡_, sym, ap, ap₂, _∙_}
-use mathlib.Core.List.{List, _++_, map}
+use mathlib.Core.{Path.{_≡_, sym, ap, ap₂, _∙_}, List.{List, _++_, map}}
 use Prim.Native.Nat.{ℕ, zero, suc, _+_, _*_, _/_, _%_, _^_, _<_}
 use native.Mathlib.Nat.{mod-lt, zero-add}
 use native.Mathlib.Omega.{arith}
-use lib.Bits.{bitXor}
-use lib.ListN.{length, length-map, getD, List·getD-map, List·getD-append}
-use lib.Pow.{pow-pos}
+use lib.{Bits.bitXor, ListN.{length, length-map, getD, List·getD-map, List·getD-append}, Pow.pow-pos}
 use lib.Seq.{getD-append-add}
 use Rattle.bits.specs.Bits.{entries}
 use Rattle.bits.proofs.EntriesLaws.{length-entries, entries-at}
-use Rattle.crc32.specs.Crc32.{bitStep, bitSteps}
-use Rattle.crc32.specs.Tables.{tablesFrom, crcTables}
+use Rattle.crc32.specs.{Crc32.{bitStep, bitSteps}, Tables.{tablesFrom, crcTables}}
 use Rattle.crc32.proofs.BitStepLaws.{bit-steps-add, bit-steps-split, bit-steps-byte}
 
 next-at : (t : List ℕ) (i : ℕ) → getD (map (bitSteps 8) t) i 0 ≡ bitSteps 8 (getD t i 0)

@@ -1,17 +1,14 @@
 -- Four bytes of a list from an index on: the number that they spell, and the register after them.
 -- Assumes nothing.
-use mathlib.Core.Path.{_≡_, refl, sym, ap, subst, _∙_}
-use mathlib.Core.List.{List, [], _∷_}
+use mathlib.Core.{Path.{_≡_, refl, sym, ap, subst, _∙_}, List.{List, [], _∷_}}
 use Prim.Native.Nat.{ℕ, suc, _+_, _-_, _*_, _/_, _%_, _≤_, _<_}
 use native.Mathlib.Nat.{add-zero}
 use native.Mathlib.Omega.{arith}
-use lib.Bits.{bitXor}
-use lib.ListN.{length, getD, take, drop, drop-of-length-le, length-drop, take-append-drop}
+use lib.{Bits.bitXor, ListN.{length, getD, take, drop, drop-of-length-le, length-drop, take-append-drop}}
 use lib.Seq.{drop-cons, take-length}
 use Rattle.numbers.specs.Numbers.{littleEndian}
 use Rattle.bits.specs.Bits.{Bytes}
-use Rattle.crc32.specs.Crc32.{bitSteps, crcFrom}
-use Rattle.crc32.specs.Tables.{crcTables}
+use Rattle.crc32.specs.{Crc32.{bitSteps, crcFrom}, Tables.crcTables}
 use Rattle.crc32.proofs.BitStepLaws.{crc-from-append, crc-from-word}
 use Rattle.crc32.proofs.CrcTableLaws.{table-byte}
 

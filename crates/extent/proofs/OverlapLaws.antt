@@ -2,13 +2,10 @@
 -- Assumes nothing.
 use Prim.Native.Nat.{ℕ, _+_, _-_, _≤_, _<_}
 use native.Mathlib.Omega.{arith}
-use mathlib.Core.Path.{_≡_, refl}
-use mathlib.Core.Bool.{Bool, true, false, _&&_, cond}
+use mathlib.Core.{Path.{_≡_, refl}, Bool.{Bool, true, false, _&&_, cond}}
 use lib.Dec.{ltb}
 use borrow.Author.Tests.{ltb-true, ltb-false, le-leb, lt-ltb, le-ltb}
-use Rattle.extent.specs.Extents.{has, larger, overlap}
-use Rattle.extent.specs.declared.Extent.{Extent}
-use Rattle.extent.specs.declared.Overlap.{Overlap}
+use Rattle.extent.specs.{Extents.{has, larger, overlap}, declared.{Extent.Extent, Overlap.Overlap}}
 use Rattle.extent.specs.declared.Overlap.the-variants.{Apart, From}
 
 -- from the first sector on, what is left of the count tells the end

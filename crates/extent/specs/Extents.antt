@@ -2,9 +2,7 @@
 use Prim.Native.Nat.{ℕ, _+_}
 use mathlib.Core.Bool.{Bool, _&&_, cond}
 use lib.Dec.{leb, ltb}
-use Rattle.extent.specs.declared.Extent.{Extent}
-use Rattle.extent.specs.declared.Overlap.{Overlap}
-use Rattle.extent.specs.declared.Overlap.the-variants.{Apart, From}
+use Rattle.extent.specs.declared.{Extent.Extent, Overlap.{Overlap, the-variants.{Apart, From}}}
 
 -- an extent has a sector: from its first one on, so many as it counts
 unfoldable pub has : Extent → ℕ → Bool

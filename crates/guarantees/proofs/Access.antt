@@ -1,25 +1,16 @@
 -- Reads and writes on any view keep the table of refusals and move sectors. Assumes nothing.
 use Prim.Native.Nat.{ℕ, _+_, _*_}
-use mathlib.Core.Path.{_≡_, refl, sym, ap, _∙_}
-use mathlib.Core.Bool.{cond}
-use mathlib.Core.List.{List}
-use lib.Dec.{leb, eqb}
-use lib.ListN.{length}
+use mathlib.Core.{Path.{_≡_, refl, sym, ap, _∙_}, Bool.cond, List.List}
+use lib.{Dec.{leb, eqb}, ListN.length}
 use borrow.Author.Tests.{leb-true}
-use Rattle.access.specs.Judging.{checked, readAnswer, writeAnswer}
-use Rattle.access.specs.Moving.{filledBy, writtenBy}
+use Rattle.access.specs.{Judging.{checked, readAnswer, writeAnswer}, Moving.{filledBy, writtenBy}}
 use Rattle.access.proofs.JudgingLaws.{Passed, read-passed, write-passed}
-use Rattle.answers.specs.Answers.{isAccepted}
-use Rattle.answers.specs.declared.Answer.{Answer}
-use Rattle.answers.specs.declared.Answer.the-variants.{Accepted, Refused}
+use Rattle.answers.specs.{Answers.isAccepted, declared.Answer.{Answer, the-variants.{Accepted, Refused}}}
 use Rattle.sector_map.specs.SectorMap.{sectors}
-use Rattle.view.specs.Outcomes.{viewRead, viewWrite, after}
-use Rattle.view.specs.declared.View.{View}
+use Rattle.view.specs.{Outcomes.{viewRead, viewWrite, after}, declared.View.View}
 use Rattle.model.specs.Model.{bufferAfter, imageAfter}
-use Rattle.guarantees.specs.Access.{AccessesByTable}
-use Rattle.guarantees.specs.ReferenceModel.{isWrite, hostsOf, viewRules}
-use Rattle.guarantees.specs.SectorMap.{Sound}
-use Rattle.guarantees.specs.Table.{later, tabled}
+use Rattle.guarantees.specs.{Access.AccessesByTable, ReferenceModel.{isWrite, hostsOf, viewRules}}
+use Rattle.guarantees.specs.{SectorMap.Sound, Table.{later, tabled}}
 use Rattle.guarantees.proofs.ExtentLaws.{gather-extent, lay-extent}
 use Rattle.guarantees.proofs.RangeLaws.{lock-range}
 use Rattle.guarantees.proofs.Reflects.{holds-true, is-true, is-false}

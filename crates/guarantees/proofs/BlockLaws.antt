@@ -2,10 +2,8 @@
 -- Assumes nothing.
 use Prim.Native.Nat.{ℕ, _^_, _<_}
 use native.Mathlib.Nat.{mod-eq-of-lt}
-use mathlib.Core.Path.{_≡_, sym, _∙_, ap}
-use mathlib.Core.List.{_++_}
-use lib.ListN.{length, replicate}
-use lib.Seq.{take-at, drop-at}
+use mathlib.Core.{Path.{_≡_, sym, _∙_, ap}, List._++_}
+use lib.{ListN.{length, replicate}, Seq.{take-at, drop-at}}
 use Rattle.numbers.specs.Numbers.{littleEndian, littleEndianBytes}
 use Rattle.numbers.proofs.WrittenLaws.{little-endian-bytes-length, little-endian-bytes-lt, little-endian-bytes-spell, little-endian-bytes-pad}
 use Rattle.sector_map.specs.SectorMap.{blockOf}

@@ -2,8 +2,7 @@
 -- Assumes nothing.
 use Prim.Native.Nat.{ℕ}
 use native.Mathlib.Omega.{arith}
-use mathlib.Core.Path.{_≡_, refl, _∙_}
-use mathlib.Core.List.{List}
+use mathlib.Core.{Path.{_≡_, refl, _∙_}, List.List}
 use lib.ListN.{length}
 use Rattle.answers.specs.Answers.{numberedRefusal, answerRefusal}
 use Rattle.layout.specs.Opened.{openedRefusal}
@@ -11,8 +10,7 @@ use Rattle.opening.specs.Opening.{keysOffset, keysSize}
 use Rattle.opening.proofs.OpenedLaws.{opened-inside}
 use Rattle.sector_map.specs.SectorMap.{tweakOf, tweakNumber}
 use Rattle.view.specs.Views.{viewedRefusal}
-use Rattle.protection.specs.declared.Protection.{Protection}
-use Rattle.protection.specs.declared.Protection.the-variants.{Unprotected, Protected}
+use Rattle.protection.specs.declared.Protection.{Protection, the-variants.{Unprotected, Protected}}
 use Rattle.boundary_numbers.specs.BoundaryNumbers.{layoutNumbers, layoutFrom, protectionNumbers, protectionFrom, viewNumbers, viewFrom}
 use Rattle.boundary_numbers.specs.BoundaryNumbers.{numberedLeft, openedLeft, viewedLeft, blockLeft}
 use Rattle.boundary_opening.specs.BoundaryOpening.{keysLeft}

@@ -2,22 +2,15 @@
 -- Assumes nothing.
 use Prim.Native.Nat.{ℕ, suc, _<_}
 use native.Mathlib.Omega.{arith}
-use mathlib.Core.Path.{_≡_, refl, sym, ap, _∙_}
-use mathlib.Core.Bool.{Bool, true, false, cond}
-use mathlib.Core.List.{List, [], _∷_, _++_}
-use lib.Dec.{ltb, eqb}
-use lib.ListN.{length, getD, set, take, drop}
+use mathlib.Core.{Path.{_≡_, refl, sym, ap, _∙_}, Bool.{Bool, true, false, cond}, List.{List, [], _∷_, _++_}}
+use lib.{Dec.{ltb, eqb}, ListN.{length, getD, set, take, drop}}
 use lib.Seq.{getD-set-same, getD-set-other, set-split, drop-length}
 use borrow.Author.Tests.{ltb-true}
 use Rattle.access.specs.Judging.{closesLock, lockedAfter}
-use Rattle.answers.specs.Answers.{answerRefusal}
-use Rattle.answers.specs.declared.Answer.{Answer}
-use Rattle.answers.specs.declared.Answer.the-variants.{Accepted, Refused}
+use Rattle.answers.specs.{Answers.answerRefusal, declared.Answer.{Answer, the-variants.{Accepted, Refused}}}
 use Rattle.layout.specs.declared.Layout.{Layout}
-use Rattle.protection.specs.declared.Protection.{Protection}
-use Rattle.protection.specs.declared.Protection.the-variants.{Unprotected, Protected}
-use Rattle.view.specs.declared.View.{View}
-use Rattle.view.specs.Outcomes.{after}
+use Rattle.protection.specs.declared.Protection.{Protection, the-variants.{Unprotected, Protected}}
+use Rattle.view.specs.{declared.View.View, Outcomes.after}
 use Rattle.boundary_numbers.specs.BoundaryNumbers.{layoutNumbers, layoutFrom, protectionNumbers, protectionFrom, viewNumbers, viewFrom}
 use Rattle.boundary_access.specs.BoundaryAccess.{viewLeft}
 

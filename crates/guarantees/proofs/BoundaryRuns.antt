@@ -1,33 +1,23 @@
 -- Calls over numbers are runs on the views that the numbers tell. Assumes nothing.
 use Prim.Native.Nat.{ℕ, suc}
 use native.Mathlib.Omega.{arith}
-use mathlib.Core.Path.{_≡_, refl, ap, _∙_}
-use mathlib.Core.Bool.{Bool, true, false, cond}
-use mathlib.Core.List.{List, [], _∷_, _++_}
-use lib.Dec.{eqb}
-use lib.ListN.{length, set, length-set}
+use mathlib.Core.{Path.{_≡_, refl, ap, _∙_}, Bool.{Bool, true, false, cond}, List.{List, [], _∷_, _++_}}
+use lib.{Dec.eqb, ListN.{length, set, length-set}}
 use borrow.Author.Tests.{ne-eqb}
 use Rattle.access.proofs.JudgingLaws.{read-holds, write-holds}
-use Rattle.answers.specs.Answers.{answerRefusal}
-use Rattle.answers.specs.declared.Answer.{Answer}
-use Rattle.answers.specs.declared.Answer.the-variants.{Accepted, Refused}
+use Rattle.answers.specs.{Answers.answerRefusal, declared.Answer.{Answer, the-variants.{Accepted, Refused}}}
 use Rattle.layout.specs.declared.Layout.{Layout}
-use Rattle.view.specs.Outcomes.{viewRead, viewWrite}
-use Rattle.protection.specs.declared.Protection.{Protection}
-use Rattle.protection.specs.declared.Protection.the-variants.{Unprotected, Protected}
-use Rattle.view.specs.declared.View.{View}
-use Rattle.view.specs.declared.Viewed.the-variants.{Made}
+use Rattle.view.specs.{Outcomes.{viewRead, viewWrite}, declared.{View.View, Viewed.the-variants.Made}}
+use Rattle.protection.specs.declared.Protection.{Protection, the-variants.{Unprotected, Protected}}
 use Rattle.boundary_numbers.specs.BoundaryNumbers.{viewFrom, viewedLeft}
 use Rattle.boundary_access.specs.BoundaryAccess.{viewLeft}
-use Rattle.model.specs.Model.{State, stateWith, Reply}
-use Rattle.model.specs.Sides.{Side, outer, hidden, at, eachWith, OnSide}
+use Rattle.model.specs.{Model.{State, stateWith, Reply}, Sides.{Side, outer, hidden, at, eachWith, OnSide}}
 use Rattle.model.proofs.RunLaws.{run-exists, run-carries}
 use Rattle.model.proofs.SideLaws.{on-side-exists, on-side-carries}
 use Rattle.guarantees.specs.Boundary.{storedLayout, storedProtection}
 use Rattle.guarantees.specs.BoundaryRuns.{Numbers, Twelve, told, answerTold, storedFor, KeepsNumberContract, NumberStep, CarriesRuns, BeginsRuns}
 use Rattle.guarantees.specs.Interleaving.{KeepsContract, Step, sideView}
-use Rattle.guarantees.specs.Table.{Operation, reads, writes, Call}
-use Rattle.guarantees.specs.Views.{plain, protecting}
+use Rattle.guarantees.specs.{Table.{Operation, reads, writes, Call}, Views.{plain, protecting}}
 use Rattle.guarantees.proofs.Boundary.{stores-answers}
 use Rattle.guarantees.proofs.BoundaryNumbers.{view-of-left}
 use Rattle.guarantees.proofs.Views.{makes-views}

@@ -2,35 +2,22 @@
 -- Assumes nothing.
 use Prim.Native.Nat.{ℕ, suc, _+_, _<_}
 use native.Mathlib.Omega.{arith}
-use mathlib.Core.Path.{_≡_, refl, ap, _∙_}
-use mathlib.Core.Logic.{_↔_}
-use mathlib.Core.Bool.{Bool, true, false, _&&_, cond}
-use mathlib.Core.List.{List}
-use lib.Dec.{leb, ltb}
-use lib.ListN.{length}
-use Rattle.answers.specs.Answers.{line, answerRefusal, numberedRefusal}
-use Rattle.answers.specs.declared.Answer.{Answer}
+use mathlib.Core.{Path.{_≡_, refl, ap, _∙_}, Logic._↔_, Bool.{Bool, true, false, _&&_, cond}, List.List}
+use lib.{Dec.{leb, ltb}, ListN.length}
+use Rattle.answers.specs.{Answers.{line, answerRefusal, numberedRefusal}, declared.Answer.Answer}
+use Rattle.answers.specs.declared.Numbered.the-variants.{Number}
 use Rattle.answers.proofs.AnswerLaws.{refused-accepted}
-use Rattle.layout.specs.Opened.{openedRefusal}
-use Rattle.layout.specs.Rules.{hostSizeRule}
-use Rattle.layout.specs.Soundness.{sound}
-use Rattle.layout.specs.declared.Layout.{Layout}
-use Rattle.layout.specs.declared.Opened.{Opened}
+use Rattle.layout.specs.{Opened.openedRefusal, Rules.{hostSizeRule, sound}, declared.{Layout.Layout, Opened.Opened}}
 use Rattle.layout.specs.declared.Opened.the-variants.{Accepted, Refused}
 use Rattle.locations.specs.Locations.{codeRule, located}
 use Rattle.opening.specs.Opening.{searched, opened}
 use Rattle.sector_map.specs.SectorMap.{sectors, firstSector, hostSector, userSector}
-use Rattle.answers.specs.declared.Numbered.the-variants.{Number}
 use Rattle.access.proofs.JudgingLaws.{read-holds, write-holds}
 use Rattle.protection.specs.Protection.{nests, pairAnswer}
-use Rattle.view.specs.Outcomes.{viewRead, viewWrite}
-use Rattle.view.specs.Views.{madeBy, plainView, protectedView, viewedRefusal}
-use Rattle.view.specs.declared.View.{View}
+use Rattle.view.specs.{Outcomes.{viewRead, viewWrite}, Views.{madeBy, plainView, protectedView, viewedRefusal}}
+use Rattle.view.specs.declared.{View.View, Viewed.the-variants.Made}
 use Rattle.answers.specs.declared.Answer.the-variants as access
-use Rattle.view.specs.declared.Viewed.the-variants.{Made}
-use Rattle.guarantees.specs.Boundary.{ZeroAccepts}
-use Rattle.guarantees.specs.Header.{number}
-use Rattle.guarantees.specs.Opening.{Lengths, Codes, HostSize}
+use Rattle.guarantees.specs.{Boundary.ZeroAccepts, Header.number, Opening.{Lengths, Codes, HostSize}}
 use Rattle.guarantees.proofs.Reflects.{Reflects, holds, fails}
 use Rattle.guarantees.proofs.RuleReflections.{lengths-reflects, codes-reflects, host-size-reflects}
 use Rattle.guarantees.proofs.JudgementLaws.{number-bounds}

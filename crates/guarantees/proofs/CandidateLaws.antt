@@ -2,15 +2,12 @@
 -- Assumes nothing.
 use Prim.Native.Nat.{ℕ, zero, suc, _%_, _≤_, _<_}
 use native.Mathlib.Omega.{arith}
-use mathlib.Core.Path.{_≡_, refl}
-use mathlib.Core.Logic.{inl, inr}
-use mathlib.Core.List.{List}
+use mathlib.Core.{Path.{_≡_, refl}, Logic.{inl, inr}, List.List}
 use lib.ListN.{length, getD, length-take, length-drop}
 use Rattle.header.specs.Header.{judge}
 use Rattle.locations.specs.Locations.{locations, locationOf}
 use Rattle.opening.specs.Opening.{candidateAt}
-use Rattle.guarantees.specs.Header.{KnownKind}
-use Rattle.guarantees.specs.Opening.{Lengths, candidate, kindOf}
+use Rattle.guarantees.specs.{Header.KnownKind, Opening.{Lengths, candidate, kindOf}}
 use Rattle.guarantees.proofs.JudgementLaws.{Judgement, judge-says}
 
 location-of-kind : (code : ℕ) → code ≤ 3 → locationOf code .kind ≡ kindOf code

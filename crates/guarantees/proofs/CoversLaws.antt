@@ -3,13 +3,10 @@
 use Prim.Native.Nat.{ℕ, zero, suc, _+_, _≤_, _<_}
 use native.Mathlib.Omega.{arith}
 use native.Mathlib.Nat.{add-suc}
-use mathlib.Core.Path.{_≡_, refl, ap}
-use mathlib.Core.Bool.{true}
-use mathlib.Core.List.{List, [], _∷_}
+use mathlib.Core.{Path.{_≡_, refl, ap}, Bool.true, List.{List, [], _∷_}}
 use lib.ListN.{length}
 use borrow.Author.Tests.{lt-ltb}
-use Rattle.layout.specs.Soundness.{sound}
-use Rattle.layout.specs.declared.Layout.{Layout}
+use Rattle.layout.specs.{Rules.sound, declared.Layout.Layout}
 use Rattle.sector_map.specs.SectorMap.{sectors, firstSector, hostSector}
 use Rattle.answers.specs.declared.Numbered.the-variants.{Number}
 use Rattle.model.proofs.Lawful.{Every, Distinct}

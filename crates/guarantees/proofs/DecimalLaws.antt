@@ -3,10 +3,8 @@
 use Prim.Native.Nat.{ℕ, zero, suc, _+_, _-_, _*_, _/_, _%_, _^_, _≤_, _<_}
 use native.Mathlib.Nat.{pow-suc, mod-lt, zero-lt-suc}
 use native.Mathlib.Omega.{arith}
-use mathlib.Core.Path.{_≡_, refl, _∙_}
-use mathlib.Core.List.{List, [], _∷_, _++_}
-use lib.ListN.{length, getD, length-append, List·getD-append}
-use lib.Seq.{getD-append-seam}
+use mathlib.Core.{Path.{_≡_, refl, _∙_}, List.{List, [], _∷_, _++_}}
+use lib.{ListN.{length, getD, length-append, List·getD-append}, Seq.getD-append-seam}
 use Rattle.map_output.specs.Decimal.{digits, decimal}
 use Rattle.map_output.proofs.DigitLaws.{digits-more}
 use Rattle.guarantees.specs.MapProgram.{spelled, IsDecimal}

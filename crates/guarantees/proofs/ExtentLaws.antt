@@ -3,16 +3,14 @@
 use Prim.Native.Nat.{ℕ, zero, suc, _+_, _*_, _≤_}
 use native.Mathlib.Omega.{arith}
 use native.Mathlib.Nat.{add-zero}
-use mathlib.Core.Path.{_≡_, refl, sym, _∙_, ap}
-use mathlib.Core.List.{List, [], _∷_, _++_, append-nil, append-assoc}
+use mathlib.Core.{Path.{_≡_, refl, sym, _∙_, ap}, List.{List, [], _∷_, _++_, append-nil, append-assoc}}
 use lib.ListN.{length, take, drop, length-append, length-take, length-drop, take-append-drop}
 use lib.Seq.{take-at, drop-append-add, drop-drop, take-add}
 use Rattle.layout.specs.declared.Layout.{Layout}
 use Rattle.sector_map.specs.SectorMap.{sectors, firstSector}
 use Rattle.access.specs.Moving.{extentStart, overlay}
 use Rattle.model.specs.Sectors.{sectorAt, setSector, lay, gather}
-use Rattle.guarantees.specs.Table.{covers}
-use Rattle.guarantees.specs.SectorMap.{Sound}
+use Rattle.guarantees.specs.{Table.covers, SectorMap.Sound}
 use Rattle.guarantees.proofs.CoversLaws.{consecutive, covers-consecutive}
 use Rattle.guarantees.proofs.Reflects.{is-true}
 use Rattle.guarantees.proofs.SoundLaws.{sound-reflects}

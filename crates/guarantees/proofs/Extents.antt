@@ -2,10 +2,7 @@
 use Prim.Native.Nat.{ℕ, _≤_}
 use native.Mathlib.Omega.{arith}
 use mathlib.Core.Path.{_≡_, refl, subst, ap}
-use Rattle.extent.specs.Extents.{overlap}
-use Rattle.extent.specs.declared.Extent.{Extent}
-use Rattle.extent.specs.declared.Overlap.{Overlap}
-use Rattle.extent.specs.declared.Overlap.the-variants.{Apart, From}
+use Rattle.extent.specs.{Extents.overlap, declared.{Extent.Extent, Overlap.{Overlap, the-variants.{Apart, From}}}}
 use Rattle.extent.proofs.OverlapLaws.{In, Shared, none, least, overlap-shared}
 use Rattle.guarantees.specs.Extents.{Within, SharesLeast}
 

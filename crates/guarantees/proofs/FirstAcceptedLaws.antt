@@ -4,12 +4,9 @@ use Prim.Native.Nat.{ℕ, zero, suc, _≤_, _<_}
 use native.Mathlib.Numerals.{add-one}
 use native.Mathlib.Omega.{arith}
 use mathlib.Core.List.{List}
-use lib.ListN.{length, getD, take}
-use lib.Seq.{take-length}
+use lib.{ListN.{length, getD, take}, Seq.take-length}
 use borrow.Author.Tests.{ne-eqb}
-use Rattle.layout.specs.declared.Layout.{Layout}
-use Rattle.layout.specs.declared.Opened.{Opened}
-use Rattle.layout.specs.declared.Opened.the-variants.{Accepted, Refused}
+use Rattle.layout.specs.declared.{Layout.Layout, Opened.{Opened, the-variants.{Accepted, Refused}}}
 use Rattle.opening.specs.Opening.{judgements, further, searched}
 use Rattle.opening.proofs.SearchLaws.{searched-next}
 use Rattle.guarantees.specs.Header.{IsHeader, Line, number, Keeps}

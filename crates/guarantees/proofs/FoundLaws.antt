@@ -2,13 +2,9 @@
 -- Assumes nothing.
 use Prim.Native.Nat.{ℕ, _<_}
 use native.Mathlib.Omega.{arith}
-use mathlib.Core.Path.{_≡_, refl, ap, subst}
-use mathlib.Core.Logic.{_⊎_, inl, inr}
-use mathlib.Core.List.{List}
+use mathlib.Core.{Path.{_≡_, refl, ap, subst}, Logic.{_⊎_, inl, inr}, List.List}
 use lib.ListN.{length, getD}
-use Rattle.layout.specs.declared.Layout.{Layout}
-use Rattle.layout.specs.declared.Opened.{Opened}
-use Rattle.layout.specs.declared.Opened.the-variants.{Accepted, Refused}
+use Rattle.layout.specs.declared.{Layout.Layout, Opened.{Opened, the-variants.{Accepted, Refused}}}
 use Rattle.guarantees.specs.Header.{IsHeader, Line, number, FirstBroken}
 use Rattle.guarantees.specs.Opening.{candidate, kindOf, IsAccepted, FirstAccepted, FirstHeader, TellsAt}
 use Rattle.guarantees.proofs.FirstAcceptedLaws.{Found, anAccepted, aHeader, noHeader}

@@ -1,17 +1,12 @@
 -- Two headers that open and nest give views for which demand 3 holds. Assumes nothing.
 use Prim.Native.Nat.{ℕ, zero, suc, _<_}
 use native.Mathlib.Omega.{arith}
-use mathlib.Core.Path.{_≡_, sym, _∙_, subst}
-use mathlib.Core.List.{List, [], _∷_}
-use lib.ListN.{length}
-use lib.Seq.{take-all}
-use Rattle.layout.specs.declared.Layout.{Layout}
-use Rattle.layout.specs.declared.Opened.the-variants.{Accepted}
+use mathlib.Core.{Path.{_≡_, sym, _∙_, subst}, List.{List, [], _∷_}}
+use lib.{ListN.length, Seq.take-all}
+use Rattle.layout.specs.declared.{Layout.Layout, Opened.the-variants.Accepted}
 use Rattle.opening.specs.Opening.{opened}
-use Rattle.guarantees.specs.FromHeaders.{HasArea, FromHeaders}
-use Rattle.guarantees.specs.Header.{Tells}
-use Rattle.guarantees.specs.Opening.{candidate, kindOf, TellsAt}
-use Rattle.guarantees.specs.Views.{Nested}
+use Rattle.guarantees.specs.{FromHeaders.{HasArea, FromHeaders}, Header.Tells}
+use Rattle.guarantees.specs.{Opening.{candidate, kindOf, TellsAt}, Views.Nested}
 use Rattle.guarantees.proofs.Interleaving.{demand-3}
 use Rattle.guarantees.proofs.Opening.{opens-exactly-when}
 use Rattle.guarantees.proofs.SectorMap.{opened-sound}

@@ -2,18 +2,12 @@
 -- Assumes nothing.
 use Prim.Native.Nat.{ℕ}
 use native.Mathlib.Omega.{arith}
-use mathlib.Core.Path.{_≡_, refl, sym}
-use mathlib.Core.Logic.{_⊎_, inl, inr, ⊎-elim}
-use mathlib.Core.Bool.{Bool, cond}
-use mathlib.Core.List.{List, [], _∷_}
-use lib.Dec.{leb}
-use lib.ListN.{length}
-use Rattle.numbers.specs.Numbers.{bigEndian}
+use mathlib.Core.{Path.{_≡_, refl, sym}, Logic.{_⊎_, inl, inr, ⊎-elim}, Bool.{Bool, cond}, List.{List, [], _∷_}}
+use lib.{Dec.leb, ListN.length}
+use Rattle.numbers.specs.{Numbers.bigEndian, Bytes.{part, sameBytes, allZero}}
 use Rattle.crc32.specs.Crc32.{crc32}
-use Rattle.numbers.specs.Bytes.{part, sameBytes, allZero}
 use Rattle.header.specs.Header.{veraMagic, trueMagic, magicOf, checksumsMatch, isHeader}
-use Rattle.guarantees.specs.Header.{IsVera, IsTrue, IsHeader}
-use Rattle.guarantees.specs.Numbers.{AllZero}
+use Rattle.guarantees.specs.{Header.{IsVera, IsTrue, IsHeader}, Numbers.AllZero}
 use Rattle.guarantees.proofs.Reflects.{Reflects, holds, fails, reflects-map, reflects-and, reflects-eqb, reflects-nil, reflects-cons}
 
 nil-is-not-cons : {b : ℕ} {bytes : List ℕ} → [] ≡ b ∷ bytes → ⊥

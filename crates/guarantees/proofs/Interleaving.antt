@@ -1,22 +1,17 @@
 -- Demand 3: steps on the two views are the reference model's, by lawful rules that keep apart, and so the model's laws hold of every run.
 -- Assumes nothing.
-use mathlib.Core.Path.{ap}
-use mathlib.Core.Bool.{Bool}
-use mathlib.Core.List.{List}
+use mathlib.Core.{Path.ap, Bool.Bool, List.List}
 use Rattle.layout.specs.declared.Layout.{Layout}
 use Rattle.answers.specs.Answers.{isAccepted}
 use Rattle.protection.specs.declared.Protection.the-variants.{Unprotected}
 use Rattle.view.specs.declared.View.{View}
-use Rattle.model.specs.Model.{State, stateWith}
-use Rattle.model.specs.Sides.{Side, outer, hidden, Both, eachWith, OnSide, sided}
+use Rattle.model.specs.{Model.{State, stateWith}, Sides.{Side, outer, hidden, Both, eachWith, OnSide, sided}}
 use Rattle.model.proofs.Independence.{run-independent}
 use Rattle.model.proofs.Lawful.{sided-lawful}
 use Rattle.model.proofs.RunLaws.{Models, run-exists, run-agrees, run-last-write, run-reads-left}
 use Rattle.model.proofs.SideLaws.{sided-models, on-side-exists}
 use Rattle.guarantees.specs.Interleaving.{Step, sideLayout, sideProtection, sideView, sideRules, bothRules, Interleaved, Demand3}
-use Rattle.guarantees.specs.ReferenceModel.{isWrite, inRange, viewRules}
-use Rattle.guarantees.specs.Table.{Call}
-use Rattle.guarantees.specs.Views.{area}
+use Rattle.guarantees.specs.{ReferenceModel.{isWrite, inRange, viewRules}, Table.Call, Views.area}
 use Rattle.guarantees.proofs.NestLaws.{Nest, plain-sound, protecting-sound}
 use Rattle.guarantees.proofs.ViewRulesLaws.{sides-lawful, sides-apart}
 use Rattle.guarantees.proofs.StepLaws.{view-models, step-exists}

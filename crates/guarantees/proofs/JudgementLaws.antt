@@ -3,12 +3,9 @@
 -- Assumes nothing.
 use Prim.Native.Nat.{ℕ, suc, _-_, _≤_, _<_}
 use native.Mathlib.Omega.{arith}
-use mathlib.Core.Path.{_≡_, refl, sym, _∙_, ap, subst}
-use mathlib.Core.Bool.{Bool, cond}
-use mathlib.Core.List.{List, [], _∷_}
+use mathlib.Core.{Path.{_≡_, refl, sym, _∙_, ap, subst}, Bool.{Bool, cond}, List.{List, [], _∷_}}
 use lib.ListN.{length, getD}
-use Rattle.layout.specs.declared.Opened.{Opened}
-use Rattle.layout.specs.declared.Opened.the-variants.{Accepted, Refused}
+use Rattle.layout.specs.declared.Opened.{Opened, the-variants.{Accepted, Refused}}
 use Rattle.header.specs.Header.{judge}
 use Rattle.guarantees.specs.Header.{KnownKind, IsHeader, Line, version, reserved, flags, sectorSize, hiddenSize, dataArea, number, Keeps, FirstBroken}
 use Rattle.guarantees.proofs.Reflects.{Reflects, holds, fails, below-suc}

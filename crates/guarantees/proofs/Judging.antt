@@ -2,15 +2,10 @@
 -- Assumes nothing.
 use Prim.Native.Nat.{ℕ, _+_, _<_}
 use native.Mathlib.Omega.{arith}
-use mathlib.Core.Path.{_≡_, refl, sym, ap, _∙_}
-use mathlib.Core.Bool.{Bool}
-use mathlib.Core.List.{List, _++_}
-use lib.ListN.{length, drop, length-append}
-use lib.Seq.{drop-at, drop-drop}
+use mathlib.Core.{Path.{_≡_, refl, sym, ap, _∙_}, Bool.Bool, List.{List, _++_}}
+use lib.{ListN.{length, drop, length-append}, Seq.{drop-at, drop-drop}}
 use borrow.Author.Tests.{ne-eqb}
-use Rattle.layout.specs.declared.Layout.{Layout}
-use Rattle.layout.specs.declared.Opened.{Opened}
-use Rattle.layout.specs.declared.Opened.the-variants.{Accepted, Refused}
+use Rattle.layout.specs.declared.{Layout.Layout, Opened.{Opened, the-variants.{Accepted, Refused}}}
 use Rattle.header.specs.Header.{magicOf, fieldsOf, checksumsMatch, isHeader, reservedRule, judge}
 use Rattle.opening.specs.Opening.{keysOffset, keysSize}
 use Rattle.guarantees.specs.Header.{IsHeader, Line, number, Keeps, FirstBroken, Tells}

@@ -2,13 +2,11 @@
 -- Assumes nothing.
 use Prim.Native.Nat.{ℕ, suc, _+_, _-_, _/_, _<_}
 use native.Mathlib.Omega.{arith}
-use mathlib.Core.Path.{_≡_, refl}
-use mathlib.Core.Bool.{Bool, _&&_, cond}
+use mathlib.Core.{Path.{_≡_, refl}, Bool.{Bool, _&&_, cond}}
 use lib.Dec.{leb, ltb}
 use Rattle.layout.specs.declared.Layout.{Layout}
 use Rattle.sector_map.specs.SectorMap.{sectors, firstSector, hostSector, userSector}
-use Rattle.answers.specs.declared.Numbered.{Numbered}
-use Rattle.answers.specs.declared.Numbered.the-variants.{Number, Refused}
+use Rattle.answers.specs.declared.Numbered.{Numbered, the-variants.{Number, Refused}}
 use Rattle.guarantees.specs.SectorMap.{Sound, InArea, Outside, OutsideHeaders}
 use Rattle.guarantees.proofs.Reflects.{Reflects, holds, fails, is-true, reflects-map, reflects-and, reflects-leb}
 use Rattle.guarantees.proofs.SoundLaws.{sound-reflects, sound-start}

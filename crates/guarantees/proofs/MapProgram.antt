@@ -2,14 +2,12 @@
 -- Assumes nothing.
 use Prim.Native.Nat.{ℕ, _+_, _-_, _/_, _<_}
 use native.Mathlib.Omega.{arith}
-use mathlib.Core.Path.{_≡_, refl, sym, ap, _∙_}
-use mathlib.Core.List.{List, [], _∷_, _++_, append-assoc}
+use mathlib.Core.{Path.{_≡_, refl, sym, ap, _∙_}, List.{List, [], _∷_, _++_, append-assoc}}
 use lib.ListN.{length, drop, length-append}
 use lib.Seq.{take-at, drop-at, take-all, drop-drop, take-append-seam, drop-append-seam}
 use borrow.Author.Tests.{eq-eqb, ne-eqb}
 use Rattle.numbers.specs.Numbers.{bigEndian}
-use Rattle.layout.specs.declared.Layout.{Layout}
-use Rattle.layout.specs.declared.Opened.the-variants.{Refused}
+use Rattle.layout.specs.declared.{Layout.Layout, Opened.the-variants.Refused}
 use Rattle.opening.specs.Opening.{opened}
 use Rattle.sector_map.specs.SectorMap.{sectors, firstSector, sectorCount, hostSector}
 use Rattle.answers.specs.declared.Numbered.the-variants.{Number}

@@ -2,11 +2,9 @@
 -- Assumes nothing.
 use native.Mathlib.Omega.{arith}
 use mathlib.Core.Bool.{Bool}
-use Rattle.layout.specs.Rules.{standard, hidden}
-use Rattle.layout.specs.declared.Layout.{Layout}
+use Rattle.layout.specs.{Rules.{standard, hidden}, declared.Layout.Layout}
 use Rattle.protection.specs.Protection.{areaEnd, nests}
-use Rattle.guarantees.specs.SectorMap.{Sound}
-use Rattle.guarantees.specs.Views.{plain, protecting, SoundRange, SoundView, Nested}
+use Rattle.guarantees.specs.{SectorMap.Sound, Views.{plain, protecting, SoundRange, SoundView, Nested}}
 use Rattle.guarantees.proofs.Reflects.{Reflects, reflects-map, reflects-and, reflects-eqb, reflects-leb}
 
 -- two sound layouts that nest

@@ -2,11 +2,8 @@
 use Prim.Native.Nat.{ℕ, zero, suc, _*_, _/_, _%_, _<_}
 use native.Mathlib.Nat.{mod-lt, zero-lt-suc, zero-mul, one-mul}
 use native.Mathlib.Omega.{arith}
-use mathlib.Core.Path.{_≡_, refl, sym, ap, _∙_}
-use mathlib.Core.Bool.{cond}
-use mathlib.Core.List.{List, [], _∷_, _++_, reverse, reverse-cons}
-use lib.Bits.{bitXor, xor-zero-l}
-use lib.Dec.{eqb}
+use mathlib.Core.{Path.{_≡_, refl, sym, ap, _∙_}, Bool.cond, List.{List, [], _∷_, _++_, reverse, reverse-cons}}
+use lib.{Bits.{bitXor, xor-zero-l}, Dec.eqb}
 use Rattle.numbers.specs.Numbers.{bigEndian, bigEndianFrom, bigEndianBytes, littleEndian, littleEndianBytes}
 use Rattle.numbers.proofs.NumbersLaws.{big-endian-snoc}
 use Rattle.numbers.proofs.WrittenLaws.{little-endian-bytes-length, little-endian-bytes-lt, little-endian-bytes-spell}

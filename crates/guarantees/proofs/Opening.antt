@@ -2,17 +2,12 @@
 -- Assumes nothing.
 use Prim.Native.Nat.{ℕ, _≤_}
 use native.Mathlib.Omega.{arith}
-use mathlib.Core.Path.{_≡_}
-use mathlib.Core.Bool.{Bool}
-use mathlib.Core.List.{List}
+use mathlib.Core.{Path._≡_, Bool.Bool, List.List}
 use lib.ListN.{length}
-use Rattle.layout.specs.declared.Layout.{Layout}
-use Rattle.layout.specs.declared.Opened.{Opened}
-use Rattle.layout.specs.declared.Opened.the-variants.{Accepted, Refused}
+use Rattle.layout.specs.declared.{Layout.Layout, Opened.{Opened, the-variants.{Accepted, Refused}}}
 use Rattle.locations.specs.Locations.{locations, locationOf, offsetFrom, located}
 use Rattle.opening.specs.Opening.{searched, opened}
-use Rattle.answers.specs.Answers.{line}
-use Rattle.answers.specs.declared.Numbered.the-variants.{Number}
+use Rattle.answers.specs.{Answers.line, declared.Numbered.the-variants.Number}
 use Rattle.guarantees.specs.Opening.{Lengths, Codes, HostSize, Allowed, OpensExactlyWhen, LocatesHeaders}
 use Rattle.guarantees.proofs.Reflects.{Reflects, holds, fails, is-true, is-false}
 use Rattle.guarantees.proofs.RuleReflections.{lengths-reflects, code-reflects, codes-reflects, host-size-reflects}

@@ -1,23 +1,16 @@
 -- What views, reads and writes are made of keeps its rules. Assumes nothing.
 use Prim.Native.Nat.{ℕ, suc, _+_, _-_, _*_, _/_}
 use native.Mathlib.Omega.{arith}
-use mathlib.Core.Path.{_≡_, refl, sym}
-use mathlib.Core.Logic.{_↔_}
-use mathlib.Core.Bool.{true}
+use mathlib.Core.{Path.{_≡_, refl, sym}, Logic._↔_, Bool.true}
 use lib.ListN.{length}
-use Rattle.answers.specs.Answers.{isAccepted}
-use Rattle.answers.specs.declared.Numbered.the-variants.{Number}
+use Rattle.answers.specs.{Answers.isAccepted, declared.Numbered.the-variants.Number}
 use Rattle.copy.specs.Copy.{copied}
 use Rattle.layout.specs.declared.Layout.{Layout}
 use Rattle.protection.specs.Protection.{soundProtection, protectedExtent, pairAnswer}
-use Rattle.protection.specs.declared.Protection.{Protection}
-use Rattle.protection.specs.declared.Protection.the-variants.{Unprotected, Protected}
+use Rattle.protection.specs.declared.Protection.{Protection, the-variants.{Unprotected, Protected}}
 use Rattle.sector_map.specs.SectorMap.{hostSector}
-use Rattle.guarantees.specs.Extents.{Within}
-use Rattle.guarantees.specs.Parts.{KeepsParts}
-use Rattle.guarantees.specs.ReferenceModel.{inRange}
-use Rattle.guarantees.specs.SectorMap.{Sound, InArea}
-use Rattle.guarantees.specs.Views.{area, SoundRange}
+use Rattle.guarantees.specs.{Extents.Within, Parts.KeepsParts, ReferenceModel.inRange}
+use Rattle.guarantees.specs.{SectorMap.{Sound, InArea}, Views.{area, SoundRange}}
 use Rattle.guarantees.proofs.MapLaws.{number-says, host-sector-answers}
 use Rattle.guarantees.proofs.NestLaws.{nests-reflects}
 use Rattle.guarantees.proofs.Reflects.{Reflects, fails, is-true, is-false, true-exactly, reflects-map, reflects-and, reflects-leb}

@@ -2,28 +2,20 @@
 -- Assumes nothing.
 use Prim.Native.Nat.{ℕ, zero, suc, _+_, _-_, _*_, _/_, _%_, _≤_, _<_}
 use native.Mathlib.Omega.{arith}
-use mathlib.Core.Path.{_≡_, refl, ap}
-use mathlib.Core.Bool.{Bool, true, false, not, _||_, true≢false}
-use mathlib.Core.List.{List, [], _∷_}
+use mathlib.Core.{Path.{_≡_, refl, ap}, Bool.{Bool, true, false, not, _||_, true≢false}, List.{List, [], _∷_}}
 use lib.Dec.{leb}
 use borrow.Author.Tests.{leb-true, leb-false}
 use Rattle.access.specs.Judging.{apartAnswer, lockAnswer}
-use Rattle.answers.specs.declared.Answer.{Answer}
-use Rattle.answers.specs.declared.Answer.the-variants.{Accepted}
-use Rattle.extent.specs.Extents.{overlap}
-use Rattle.extent.specs.declared.Extent.{Extent}
-use Rattle.extent.specs.declared.Overlap.{Overlap}
+use Rattle.answers.specs.declared.Answer.{Answer, the-variants.Accepted}
+use Rattle.extent.specs.{Extents.overlap, declared.{Extent.Extent, Overlap.Overlap}}
 use Rattle.extent.proofs.OverlapLaws.{In, Shared, none, least, overlap-shared}
 use Rattle.layout.specs.declared.Layout.{Layout}
 use Rattle.sector_map.specs.SectorMap.{sectors, firstSector}
-use Rattle.protection.specs.Protection.{protectedExtent}
-use Rattle.protection.specs.declared.Protection.{Protection}
+use Rattle.protection.specs.{Protection.protectedExtent, declared.Protection.Protection}
 use Rattle.protection.specs.declared.Protection.the-variants.{Unprotected, Protected}
 use Rattle.model.proofs.Lawful.{Every}
-use Rattle.guarantees.specs.ReferenceModel.{inRange, anyInRange}
-use Rattle.guarantees.specs.SectorMap.{Sound}
-use Rattle.guarantees.specs.Table.{writes, check, later, covers}
-use Rattle.guarantees.specs.Views.{ProtectedRange, SoundRange}
+use Rattle.guarantees.specs.{ReferenceModel.{inRange, anyInRange}, SectorMap.Sound}
+use Rattle.guarantees.specs.{Table.{writes, check, later, covers}, Views.{ProtectedRange, SoundRange}}
 use Rattle.guarantees.proofs.CoversLaws.{consecutive}
 use Rattle.guarantees.proofs.ExtentLaws.{covers-extent}
 use Rattle.guarantees.proofs.Reflects.{Reflects, holds, fails, reflects-and, reflects-leb}

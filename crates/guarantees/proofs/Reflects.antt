@@ -3,12 +3,9 @@
 use Prim.Native.Nat.{ℕ, zero, suc, _≤_, _<_}
 use native.Mathlib.Nat.{le-of-suc-le-suc}
 use native.Mathlib.Omega.{arith}
-use mathlib.Core.Path.{_≡_, refl, sym, subst}
-use mathlib.Core.Logic.{_↔_}
-use mathlib.Core.Bool.{Bool, true, false, _&&_, not, true≢false}
+use mathlib.Core.{Path.{_≡_, refl, sym, subst}, Logic._↔_, Bool.{Bool, true, false, _&&_, not, true≢false}}
 use mathlib.Core.List.{List, [], _∷_}
-use lib.Dec.{leb, eqb}
-use lib.ListN.{length, getD}
+use lib.{Dec.{leb, eqb}, ListN.{length, getD}}
 use borrow.Author.Tests.{leb-true, leb-false, eqb-true, eqb-false}
 
 pub data Reflects (P : Type 0) : Bool → Type 0 where

@@ -2,14 +2,12 @@
 -- A layout that opening accepted is sound. Assumes nothing.
 use Prim.Native.Nat.{ℕ, _-_, _/_}
 use native.Mathlib.Omega.{arith}
-use mathlib.Core.Path.{refl, _∙_, ap}
-use mathlib.Core.List.{List}
+use mathlib.Core.{Path.{refl, _∙_, ap}, List.List}
 use lib.ListN.{getD}
 use Rattle.layout.specs.declared.Layout.{Layout}
 use Rattle.sector_map.specs.SectorMap.{sectors, sectorCount, hostSector, userSector, tweakNumber, blockOf, tweakOf}
 use Rattle.answers.specs.declared.Numbered.the-variants.{Number}
-use Rattle.guarantees.specs.Header.{dataArea, Keeps}
-use Rattle.guarantees.specs.Opening.{HostSize, IsAccepted, TellsAt}
+use Rattle.guarantees.specs.{Header.{dataArea, Keeps}, Opening.{HostSize, IsAccepted, TellsAt}}
 use Rattle.guarantees.specs.SectorMap.{Sound, MapsSectors, RefusesUnsound, MapsExactly, OpenedIsSound}
 use Rattle.guarantees.proofs.Reflects.{is-true, is-false}
 use Rattle.guarantees.proofs.CandidateLaws.{kind-of-says}

@@ -2,14 +2,10 @@
 -- Assumes nothing.
 use Prim.Native.Nat.{_≤_}
 use native.Mathlib.Omega.{arith}
-use mathlib.Core.Path.{refl}
-use mathlib.Core.Logic.{⊎-elim}
-use Rattle.layout.specs.Rules.{dataAreaRule}
-use Rattle.layout.specs.Soundness.{sound}
-use Rattle.layout.specs.declared.Layout.{Layout}
+use mathlib.Core.{Path.refl, Logic.⊎-elim}
+use Rattle.layout.specs.{Rules.{dataAreaRule, sound}, declared.Layout.Layout}
 use Rattle.header.specs.Header.{areaRule}
-use Rattle.guarantees.specs.Header.{KnownKind, DataArea}
-use Rattle.guarantees.specs.SectorMap.{Sound}
+use Rattle.guarantees.specs.{Header.{KnownKind, DataArea}, SectorMap.Sound}
 use Rattle.guarantees.proofs.Reflects.{Reflects, is-true, reflects-map, reflects-and, reflects-eqb}
 use Rattle.guarantees.proofs.RuleReflections.{host-size-reflects}
 use Rattle.guarantees.proofs.LineLaws.{area-reflects}

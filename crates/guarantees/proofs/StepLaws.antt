@@ -1,21 +1,17 @@
 -- One call on a sound view that keeps its contract gives the model's reply and next state, and from every state every call has such a step.
 -- Assumes nothing.
 use Prim.Native.Nat.{ℕ}
-use mathlib.Core.Path.{refl, sym, ap, _∙_}
-use mathlib.Core.Bool.{Bool}
-use mathlib.Core.List.{List}
+use mathlib.Core.{Path.{refl, sym, ap, _∙_}, Bool.Bool, List.List}
 use lib.ListN.{length}
 use Rattle.answers.specs.declared.Answer.{Answer}
 use Rattle.layout.specs.declared.Layout.{Layout}
-use Rattle.view.specs.Outcomes.{viewRead, viewWrite, after}
+use Rattle.view.specs.{Outcomes.{viewRead, viewWrite, after}, declared.View.View}
 use Rattle.protection.specs.declared.Protection.{Protection}
-use Rattle.view.specs.declared.View.{View}
 use Rattle.model.specs.Model.{State, stateWith, Reply, judged, bufferAfter, imageAfter, reply, next}
 use Rattle.model.proofs.RunLaws.{Agrees, Models}
 use Rattle.guarantees.specs.Interleaving.{KeepsContract, Step}
 use Rattle.guarantees.specs.ReferenceModel.{isWrite, anyInRange, hostsOf, lockLeft, viewRules}
-use Rattle.guarantees.specs.Table.{Operation, reads, writes, Call}
-use Rattle.guarantees.specs.Views.{SoundView}
+use Rattle.guarantees.specs.{Table.{Operation, reads, writes, Call}, Views.SoundView}
 use Rattle.guarantees.proofs.Access.{accesses-by-table}
 use Rattle.guarantees.proofs.TableLaws.{read-lock}
 

@@ -1,16 +1,11 @@
 -- The table of refusals: what an acceptance says of a call, and what an answer leaves of the lock.
 -- Assumes nothing.
 use Prim.Native.Nat.{ℕ, _+_, _*_, _/_, _≤_}
-use mathlib.Core.Path.{_≡_, refl, sym, ap}
-use mathlib.Core.Bool.{Bool, true, false, cond, true≢false}
-use mathlib.Core.List.{List}
-use lib.Dec.{leb, eqb}
-use lib.ListN.{length}
+use mathlib.Core.{Path.{_≡_, refl, sym, ap}, Bool.{Bool, true, false, cond, true≢false}, List.List}
+use lib.{Dec.{leb, eqb}, ListN.length}
 use borrow.Author.Tests.{leb-true, eqb-true}
 use Rattle.access.specs.Judging.{closesLock, lockedAfter}
-use Rattle.answers.specs.Answers.{isAccepted}
-use Rattle.answers.specs.declared.Answer.{Answer}
-use Rattle.answers.specs.declared.Answer.the-variants.{Accepted, Refused}
+use Rattle.answers.specs.{Answers.isAccepted, declared.Answer.{Answer, the-variants.{Accepted, Refused}}}
 use Rattle.layout.specs.declared.Layout.{Layout}
 use Rattle.sector_map.specs.SectorMap.{sectors}
 use Rattle.model.proofs.Cases.{test-cases}

@@ -2,9 +2,7 @@
 -- Assumes nothing.
 use Prim.Native.Nat.{ℕ}
 use native.Mathlib.Omega.{arith}
-use mathlib.Core.Path.{_≡_, refl, sym, _∙_}
-use mathlib.Core.Logic.{inl, inr}
-use mathlib.Core.List.{List}
+use mathlib.Core.{Path.{_≡_, refl, sym, _∙_}, Logic.{inl, inr}, List.List}
 use Rattle.layout.specs.declared.Layout.{Layout}
 use Rattle.header.specs.Header.{magicOf, fieldsOf, acceptedLayout}
 use Rattle.guarantees.specs.Header.{IsVera, IsTrue, Tells, DataArea}

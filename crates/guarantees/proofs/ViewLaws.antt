@@ -2,10 +2,8 @@
 -- Assumes nothing.
 use Prim.Native.Nat.{suc, _%_}
 use native.Mathlib.Omega.{arith}
-use Rattle.layout.specs.Rules.{standard}
-use Rattle.layout.specs.declared.Layout.{Layout}
-use Rattle.protection.specs.Protection.{areaEnd, protectionRule, soundProtection}
-use Rattle.protection.specs.declared.Protection.{Protection}
+use Rattle.layout.specs.{Rules.standard, declared.Layout.Layout}
+use Rattle.protection.specs.{Protection.{areaEnd, protectionRule, soundProtection}, declared.Protection.Protection}
 use Rattle.protection.specs.declared.Protection.the-variants.{Unprotected, Protected}
 use Rattle.view.specs.declared.View.{View}
 use Rattle.guarantees.specs.Views.{SoundRange, SoundView}

@@ -1,8 +1,7 @@
 -- The rules of a view of a sound layout are lawful, and those of two views whose layouts nest keep apart. Assumes nothing.
 use Prim.Native.Nat.{ℕ, _+_, _*_, _≤_}
 use native.Mathlib.Omega.{arith}
-use mathlib.Core.Path.{_≡_, sym, ap, _∙_}
-use mathlib.Core.Bool.{true}
+use mathlib.Core.{Path.{_≡_, sym, ap, _∙_}, Bool.true}
 use borrow.Author.Tests.{le-leb, lt-ltb}
 use Rattle.layout.specs.declared.Layout.{Layout}
 use Rattle.sector_map.specs.SectorMap.{sectors, firstSector}
@@ -11,10 +10,8 @@ use Rattle.model.specs.Sides.{Side, outer, hidden}
 use Rattle.model.proofs.Lawful.{Every, Fitting, Lawful}
 use Rattle.model.proofs.Sameness.{Apart}
 use Rattle.guarantees.specs.Interleaving.{sideLayout, sideProtection, sideRules}
-use Rattle.guarantees.specs.ReferenceModel.{inRange, anyInRange, hostsOf, viewRules}
-use Rattle.guarantees.specs.SectorMap.{Sound}
-use Rattle.guarantees.specs.Table.{Call}
-use Rattle.guarantees.specs.Views.{area}
+use Rattle.guarantees.specs.{ReferenceModel.{inRange, anyInRange, hostsOf, viewRules}, SectorMap.Sound}
+use Rattle.guarantees.specs.{Table.Call, Views.area}
 use Rattle.guarantees.proofs.CoversLaws.{consecutive, length-consecutive, every-consecutive, distinct-consecutive}
 use Rattle.guarantees.proofs.ExtentLaws.{covers-extent}
 use Rattle.guarantees.proofs.RangeLaws.{each-outside}

@@ -2,20 +2,15 @@
 -- refusals, with 18 over the host sectors that the map gives; and what each call leaves, sector by sector. `readAnswer`, `writeAnswer`,
 -- `filledBy`, `writtenBy`, `ReadPost` and `WritePost` are the definitions that the contracts of `access` and `view` cite. Assumes nothing.
 use Prim.Native.Nat.{ℕ}
-use mathlib.Core.Path.{_≡_}
-use mathlib.Core.Bool.{Bool}
-use mathlib.Core.List.{List}
+use mathlib.Core.{Path._≡_, Bool.Bool, List.List}
 use lib.ListN.{length}
-use Rattle.answers.specs.declared.Answer.{Answer}
-use Rattle.answers.specs.declared.Answer.the-variants.{Refused}
+use Rattle.answers.specs.declared.Answer.{Answer, the-variants.Refused}
 use Rattle.access.specs.Judging.{readAnswer, writeAnswer}
 use Rattle.access.specs.Moving.{filledBy, writtenBy}
 use Rattle.view.specs.Outcomes.{ReadPost, WritePost}
-use Rattle.view.specs.declared.Outcome.{Outcome}
-use Rattle.view.specs.declared.View.{View}
+use Rattle.view.specs.declared.{Outcome.Outcome, View.View}
 use Rattle.model.specs.Model.{Rules, bufferAfter, imageAfter}
-use Rattle.guarantees.specs.ReferenceModel.{lockLeft, viewRules}
-use Rattle.guarantees.specs.Table.{Operation, reads, writes, Call}
+use Rattle.guarantees.specs.{ReferenceModel.{lockLeft, viewRules}, Table.{Operation, reads, writes, Call}}
 use Rattle.guarantees.specs.Views.{SoundView}
 
 module _ (view : View) (image : List ℕ) (first count : ℕ) (buffer : List ℕ) where

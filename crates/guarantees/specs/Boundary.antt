@@ -1,12 +1,8 @@
 -- The boundary for C and Rust: what each number returned tells, in which order a layout's and a view's numbers stand, and what is stored.
 -- The definitions are those that the contracts of `ondristela`, and of the calls below it, cite. Assumes nothing.
 use Prim.Native.Nat.{ℕ, _+_, _*_, _≤_}
-use mathlib.Core.Path.{_≡_}
-use mathlib.Core.Logic.{_↔_}
-use mathlib.Core.Bool.{not, cond}
-use mathlib.Core.List.{List, [], _∷_, _++_}
-use lib.Dec.{eqb}
-use lib.ListN.{length, take}
+use mathlib.Core.{Path._≡_, Logic._↔_, Bool.{not, cond}, List.{List, [], _∷_, _++_}}
+use lib.{Dec.eqb, ListN.{length, take}}
 use Rattle.answers.specs.Answers.{numberedRefusal, answerRefusal}
 use Rattle.layout.specs.Opened.{openedRefusal}
 use Rattle.layout.specs.declared.Layout.{Layout}
@@ -18,10 +14,8 @@ use Rattle.answers.specs.declared.Numbered.the-variants as numbered
 use Rattle.view.specs.Outcomes.{viewRead, viewWrite, ReadPost, WritePost}
 use Rattle.view.specs.Views.{plainView, protectedView, viewedRefusal}
 use Rattle.answers.specs.declared.Answer.the-variants as access
-use Rattle.view.specs.declared.Outcome.{Outcome}
-use Rattle.protection.specs.declared.Protection.{Protection}
-use Rattle.protection.specs.declared.Protection.the-variants.{Unprotected, Protected}
-use Rattle.view.specs.declared.View.{View}
+use Rattle.view.specs.declared.{Outcome.Outcome, View.View}
+use Rattle.protection.specs.declared.Protection.{Protection, the-variants.{Unprotected, Protected}}
 use Rattle.view.specs.declared.Viewed.the-variants as making
 use Rattle.boundary_numbers.specs.BoundaryNumbers.{layoutFrom, viewFrom, numberedLeft, openedLeft, viewedLeft, blockLeft}
 use Rattle.boundary_opening.specs.BoundaryOpening.{keysLeft}

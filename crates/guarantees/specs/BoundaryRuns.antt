@@ -1,25 +1,17 @@
 -- Demand 3 across the boundary: calls of `ondristela_read` and `ondristela_write`, one after another on two views' numbers, are a run in
 -- demand 3's sense. The steps are stated with `ReadCall` and `WriteCall`, which the contracts of the two functions cite. Assumes nothing.
 use Prim.Native.Nat.{ℕ}
-use mathlib.Core.Path.{_≡_}
-use mathlib.Core.Bool.{false, cond}
-use mathlib.Core.List.{List, map}
-use lib.Dec.{eqb}
-use lib.ListN.{length}
-use Rattle.answers.specs.declared.Answer.{Answer}
-use Rattle.answers.specs.declared.Answer.the-variants.{Accepted, Refused}
+use mathlib.Core.{Path._≡_, Bool.{false, cond}, List.{List, map}}
+use lib.{Dec.eqb, ListN.length}
+use Rattle.answers.specs.declared.Answer.{Answer, the-variants.{Accepted, Refused}}
 use Rattle.layout.specs.declared.Layout.{Layout}
 use Rattle.view.specs.Views.{plainView, protectedView}
 use Rattle.view.specs.declared.View.{View}
 use Rattle.boundary_numbers.specs.BoundaryNumbers.{viewFrom, viewedLeft}
 use Rattle.boundary_access.specs.BoundaryAccess.{ReadCall, WriteCall}
-use Rattle.model.specs.Model.{State, stateWith, Reply}
-use Rattle.model.specs.Runs.{Run}
-use Rattle.model.specs.Sides.{Side, Turn, Both, at, eachWith, OnSide}
-use Rattle.guarantees.specs.Interleaving.{Step, viewsOf}
-use Rattle.guarantees.specs.SectorMap.{Sound}
-use Rattle.guarantees.specs.Table.{Operation, reads, writes, Call}
-use Rattle.guarantees.specs.Views.{Nested}
+use Rattle.model.specs.{Model.{State, stateWith, Reply}, Runs.Run, Sides.{Side, Turn, Both, at, eachWith, OnSide}}
+use Rattle.guarantees.specs.{Interleaving.{Step, viewsOf}, SectorMap.Sound}
+use Rattle.guarantees.specs.{Table.{Operation, reads, writes, Call}, Views.Nested}
 
 -- both views' numbers, and the image
 abbrev pub Numbers : Type 0

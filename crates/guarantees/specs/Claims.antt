@@ -7,17 +7,12 @@ use Rattle.protection.specs.declared.Protection.{Protection}
 use Rattle.view.specs.declared.View.{View}
 use Rattle.guarantees.specs.Access.{AccessesByTable}
 use Rattle.guarantees.specs.Boundary.{TellsNumbers, ReturnsZero, OrdersNumbers, StoresAnswers}
-use Rattle.guarantees.specs.BoundaryRuns.{Numbers, CarriesRuns, BeginsRuns}
-use Rattle.guarantees.specs.Extents.{SharesLeast}
-use Rattle.guarantees.specs.FromHeaders.{FromHeaders}
-use Rattle.guarantees.specs.Interleaving.{Demand3}
+use Rattle.guarantees.specs.{BoundaryRuns.{Numbers, CarriesRuns, BeginsRuns}, Extents.SharesLeast}
+use Rattle.guarantees.specs.{FromHeaders.FromHeaders, Interleaving.Demand3}
 use Rattle.guarantees.specs.Judging.{KeepsRules, JudgesExactly, GivesKeys}
-use Rattle.guarantees.specs.MapProgram.{ReadsInput, PrintsLines}
-use Rattle.guarantees.specs.Numbers.{SpellsNumbers, ChecksBytes}
-use Rattle.guarantees.specs.Opening.{OpensExactlyWhen, LocatesHeaders}
-use Rattle.guarantees.specs.Parts.{KeepsParts}
-use Rattle.guarantees.specs.SectorMap.{MapsExactly, OpenedIsSound}
-use Rattle.guarantees.specs.Views.{MakesViews}
+use Rattle.guarantees.specs.{MapProgram.{ReadsInput, PrintsLines}, Numbers.{SpellsNumbers, ChecksBytes}}
+use Rattle.guarantees.specs.{Opening.{OpensExactlyWhen, LocatesHeaders}, Parts.KeepsParts}
+use Rattle.guarantees.specs.{SectorMap.{MapsExactly, OpenedIsSound}, Views.MakesViews}
 
 pub record Claims : Type 0 where
   -- what the others are stated in

@@ -1,10 +1,8 @@
 -- What two extents share, in whole numbers. `overlap` is the definition that the contract of `extent::first_shared` cites. Assumes nothing.
 use Prim.Native.Nat.{ℕ, _+_, _≤_, _<_}
-use mathlib.Core.Path.{_≡_}
-use mathlib.Core.Logic.{_↔_}
+use mathlib.Core.{Path._≡_, Logic._↔_}
 use Rattle.extent.specs.Extents.{overlap}
-use Rattle.extent.specs.declared.Extent.{Extent}
-use Rattle.extent.specs.declared.Overlap.the-variants.{Apart, From}
+use Rattle.extent.specs.declared.{Extent.Extent, Overlap.the-variants.{Apart, From}}
 
 -- a sector lies in an extent: from the first one on, before the end
 pub record Within (extent : Extent) (sector : ℕ) : Type 0 where

@@ -1,20 +1,13 @@
 -- From headers to demand 3: two candidates that open at their location codes for one host size, and whose data areas nest, give views for
 -- which demand 3 holds, with the data areas that the headers tell. Assumes nothing.
 use Prim.Native.Nat.{ℕ, _+_, _≤_}
-use mathlib.Core.Path.{_≡_}
-use mathlib.Core.Bool.{Bool, false}
-use mathlib.Core.List.{List, [], _∷_}
-use Rattle.layout.specs.declared.Layout.{Layout}
-use Rattle.layout.specs.declared.Opened.the-variants.{Accepted}
+use mathlib.Core.{Path._≡_, Bool.{Bool, false}, List.{List, [], _∷_}}
+use Rattle.layout.specs.declared.{Layout.Layout, Opened.the-variants.Accepted}
 use Rattle.opening.specs.Opening.{opened}
 use Rattle.view.specs.Views.{plainView, protectedView}
 use Rattle.view.specs.declared.Viewed.the-variants.{Made}
-use Rattle.model.specs.Model.{State}
-use Rattle.model.specs.Sides.{Both}
-use Rattle.guarantees.specs.Header.{fieldsAt}
-use Rattle.guarantees.specs.Interleaving.{Interleaved}
-use Rattle.guarantees.specs.Opening.{kindOf}
-use Rattle.guarantees.specs.Table.{Call}
+use Rattle.model.specs.{Model.State, Sides.Both}
+use Rattle.guarantees.specs.{Header.fieldsAt, Interleaving.Interleaved, Opening.kindOf, Table.Call}
 use Rattle.guarantees.specs.Views.{plain, protecting}
 
 -- a layout has the host, and the data area that a header tells

@@ -1,9 +1,7 @@
 -- The 512 header bytes (RULES.md, Header bytes): when a candidate is a header, the six lines that an accepted one keeps, and what its
 -- layout tells. Stated over the bytes at their offsets, apart from the definitions that the contracts cite. Assumes nothing.
 use Prim.Native.Nat.{ℕ, _+_, _/_, _%_, _≤_, _<_}
-use mathlib.Core.Path.{_≡_}
-use mathlib.Core.Logic.{_⊎_}
-use mathlib.Core.List.{List, [], _∷_}
+use mathlib.Core.{Path._≡_, Logic._⊎_, List.{List, [], _∷_}}
 use lib.ListN.{take, drop}
 use Rattle.numbers.specs.Numbers.{bigEndian, littleEndian}
 use Rattle.crc32.specs.Crc32.{crc32}

@@ -2,24 +2,17 @@
 -- hidden view, over one image. A run's steps are stated with `ReadPost` and `WritePost`, the predicates that the contracts of
 -- `View::read` and `View::write` cite; the reference model is that of `model`, by the rules of the two views. Assumes nothing.
 use Prim.Native.Nat.{ℕ}
-use mathlib.Core.Path.{_≡_}
-use mathlib.Core.Bool.{Bool}
-use mathlib.Core.List.{List, _∷_, _++_, map}
-use Rattle.answers.specs.declared.Answer.{Answer}
-use Rattle.answers.specs.declared.Answer.the-variants.{Accepted}
+use mathlib.Core.{Path._≡_, Bool.Bool, List.{List, _∷_, _++_, map}}
+use Rattle.answers.specs.declared.Answer.{Answer, the-variants.Accepted}
 use Rattle.layout.specs.declared.Layout.{Layout}
 use Rattle.view.specs.Outcomes.{ReadPost, WritePost}
-use Rattle.protection.specs.declared.Protection.{Protection}
-use Rattle.protection.specs.declared.Protection.the-variants.{Unprotected}
+use Rattle.protection.specs.declared.Protection.{Protection, the-variants.Unprotected}
 use Rattle.view.specs.declared.View.{View}
-use Rattle.model.specs.Model.{Rules, State, stateWith, Reply, replies, final, contents}
-use Rattle.model.specs.Runs.{Run}
+use Rattle.model.specs.{Model.{Rules, State, stateWith, Reply, replies, final, contents}, Runs.Run}
 use Rattle.model.specs.Sectors.{sectorAt, gather}
 use Rattle.model.specs.Sides.{Side, outer, hidden, Turn, Interleaves, Both, at, eachWith, OnSide, sided, bySide, unprotected}
-use Rattle.guarantees.specs.ReferenceModel.{inRange, hostsOf, viewRules}
-use Rattle.guarantees.specs.SectorMap.{Sound}
-use Rattle.guarantees.specs.Table.{Operation, reads, writes, Call}
-use Rattle.guarantees.specs.Views.{area, plain, protecting, Nested}
+use Rattle.guarantees.specs.{ReferenceModel.{inRange, hostsOf, viewRules}, SectorMap.Sound}
+use Rattle.guarantees.specs.{Table.{Operation, reads, writes, Call}, Views.{area, plain, protecting, Nested}}
 
 -- a call that keeps its contract, by what it does: a read leaves the image, a write its buffer
 unfoldable pub KeepsContract : Operation → State View → ℕ → ℕ → List ℕ → Reply Answer → State View → Type 0

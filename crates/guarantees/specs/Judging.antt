@@ -2,20 +2,14 @@
 -- `hostSizeRule`, `dataAreaRule`, `sound`, `judge` and `KeyBytes` are the definitions that the contracts of `layout`, `header` and
 -- `opening` cite. Assumes nothing.
 use Prim.Native.Nat.{ℕ, _+_, _*_}
-use mathlib.Core.Path.{_≡_}
-use mathlib.Core.Logic.{_↔_}
-use mathlib.Core.Bool.{true}
-use mathlib.Core.List.{List, [], _++_}
+use mathlib.Core.{Path._≡_, Logic._↔_, Bool.true, List.{List, [], _++_}}
 use lib.ListN.{length}
-use Rattle.layout.specs.Rules.{standard, hidden, hostSizeRule, dataAreaRule}
-use Rattle.layout.specs.Soundness.{sound}
-use Rattle.layout.specs.declared.Layout.{Layout}
-use Rattle.layout.specs.declared.Opened.the-variants.{Accepted, Refused}
+use Rattle.layout.specs.Rules.{standard, hidden, hostSizeRule, dataAreaRule, sound}
+use Rattle.layout.specs.declared.{Layout.Layout, Opened.the-variants.{Accepted, Refused}}
 use Rattle.header.specs.Header.{judge}
 use Rattle.opening.specs.Opening.{KeyBytes}
 use Rattle.guarantees.specs.Header.{bytesAt, KnownKind, DataArea, IsHeader, Line, number, Keeps, FirstBroken, Tells}
-use Rattle.guarantees.specs.Opening.{HostSize}
-use Rattle.guarantees.specs.SectorMap.{Sound}
+use Rattle.guarantees.specs.{Opening.HostSize, SectorMap.Sound}
 
 -- each rule is met exactly where it holds, and the kinds have these numbers
 pub record KeepsRules : Type 0 where

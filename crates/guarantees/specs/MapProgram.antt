@@ -1,14 +1,11 @@
 -- The map program (RULES.md, Map program): what it opens of its input, and the bytes that it prints.
 -- `openedInput`, `layoutLines` and `refusalLine` are the definitions that the contracts of `map_input` and `map_output` cite. Assumes nothing.
-use Prim.Native.Nat.{ℕ, _+_, _-_, _*_, _/_, _^_, _≤_, _<_}
-use Prim.Native.Char.{code}
+use Prim.Native.{Nat.{ℕ, _+_, _-_, _*_, _/_, _^_, _≤_, _<_}, Char.code}
 use Prim.Native.String as text
-use mathlib.Core.Path.{_≡_}
-use mathlib.Core.List.{List, [], _∷_, _++_}
+use mathlib.Core.{Path._≡_, List.{List, [], _∷_, _++_}}
 use lib.ListN.{length, getD, take, drop}
 use Rattle.numbers.specs.Numbers.{bigEndian}
-use Rattle.layout.specs.declared.Layout.{Layout}
-use Rattle.layout.specs.declared.Opened.the-variants.{Refused}
+use Rattle.layout.specs.declared.{Layout.Layout, Opened.the-variants.Refused}
 use Rattle.opening.specs.Opening.{opened}
 use Rattle.sector_map.specs.SectorMap.{sectorCount, hostSector}
 use Rattle.answers.specs.declared.Numbered.the-variants.{Number}

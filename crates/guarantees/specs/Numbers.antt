@@ -1,13 +1,8 @@
 -- Numbers of any count of bytes, and CRC-32 (RULES.md, Fields and CRC-32): laws that fix them, stated apart from their definitions,
 -- which the contracts of `numbers` and `crc32` cite and every other claim uses. Assumes nothing.
 use Prim.Native.Nat.{ℕ, _+_, _*_, _/_, _%_, _^_, _≤_, _<_}
-use mathlib.Core.Path.{_≡_}
-use mathlib.Core.Logic.{_↔_}
-use mathlib.Core.Bool.{true, cond}
-use mathlib.Core.List.{List, [], _∷_, _++_, reverse}
-use lib.Bits.{bitXor}
-use lib.Dec.{eqb}
-use lib.ListN.{length, getD, take, drop}
+use mathlib.Core.{Path._≡_, Logic._↔_, Bool.{true, cond}, List.{List, [], _∷_, _++_, reverse}}
+use lib.{Bits.bitXor, Dec.eqb, ListN.{length, getD, take, drop}}
 use Rattle.numbers.specs.Bytes.{fieldPart, sameBytes, allZero}
 use Rattle.numbers.specs.Numbers.{bigEndian, bigEndianBytes, littleEndian, littleEndianBytes, ReadAs}
 use Rattle.numbers.specs.declared.Field.{Field}

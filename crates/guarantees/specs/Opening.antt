@@ -1,12 +1,9 @@
 -- Demand 2, first half (RULES.md, Opening): a volume opens exactly when some candidate is a header that keeps every line.
 -- `opened` is the definition that the contract of `opening::open` cites; the rules are stated apart from it. Assumes nothing.
 use Prim.Native.Nat.{ℕ, _-_, _*_, _%_, _^_, _≤_, _<_}
-use mathlib.Core.Path.{_≡_}
-use mathlib.Core.Logic.{_⊎_}
-use mathlib.Core.List.{List}
+use mathlib.Core.{Path._≡_, Logic._⊎_, List.List}
 use lib.ListN.{length, getD}
-use Rattle.layout.specs.declared.Layout.{Layout}
-use Rattle.layout.specs.declared.Opened.the-variants.{Accepted, Refused}
+use Rattle.layout.specs.declared.{Layout.Layout, Opened.the-variants.{Accepted, Refused}}
 use Rattle.locations.specs.Locations.{located}
 use Rattle.opening.specs.Opening.{opened}
 use Rattle.answers.specs.declared.Numbered.the-variants as numbered

@@ -1,24 +1,17 @@
 -- What views, reads and writes are made of, each by itself: an acceptance, the soundness of what is protected, its user sectors, a pair of
 -- layouts, the lock after a write, and the copy. The definitions are those that the contracts of `protection`, `access` and `copy` cite. Assumes nothing.
 use Prim.Native.Nat.{ℕ, _≤_}
-use mathlib.Core.Path.{_≡_}
-use mathlib.Core.Logic.{_↔_}
-use mathlib.Core.Bool.{Bool, true, false}
-use mathlib.Core.List.{List, _++_}
+use mathlib.Core.{Path._≡_, Logic._↔_, Bool.{Bool, true, false}, List.{List, _++_}}
 use lib.ListN.{length, drop}
 use Rattle.access.specs.Judging.{lockedAfter}
 use Rattle.answers.specs.Answers.{isAccepted}
-use Rattle.answers.specs.declared.Answer.{Answer}
-use Rattle.answers.specs.declared.Answer.the-variants.{Accepted, Refused}
-use Rattle.answers.specs.declared.Numbered.the-variants.{Number}
+use Rattle.answers.specs.declared.{Answer.{Answer, the-variants.{Accepted, Refused}}, Numbered.the-variants.Number}
 use Rattle.copy.specs.Copy.{copied}
 use Rattle.layout.specs.declared.Layout.{Layout}
 use Rattle.protection.specs.Protection.{soundProtection, protectedExtent, pairAnswer}
 use Rattle.protection.specs.declared.Protection.{Protection}
 use Rattle.sector_map.specs.SectorMap.{hostSector}
-use Rattle.guarantees.specs.Extents.{Within}
-use Rattle.guarantees.specs.ReferenceModel.{inRange, lockLeft}
-use Rattle.guarantees.specs.SectorMap.{Sound, InArea}
+use Rattle.guarantees.specs.{Extents.Within, ReferenceModel.{inRange, lockLeft}, SectorMap.{Sound, InArea}}
 use Rattle.guarantees.specs.Views.{area, SoundRange, Nested}
 
 -- the claim, for any two layouts and any protection

@@ -1,15 +1,12 @@
 -- The rules by which the reference model goes (RULES.md, The reference model), for a view of a layout and what it protects: it judges by the
 -- table of refusals and moves raw bytes, sector by sector over the sector map. Assumes nothing.
 use Prim.Native.Nat.{ℕ, _*_}
-use mathlib.Core.Bool.{Bool, true, false, _&&_, _||_, cond}
-use mathlib.Core.List.{List, [], _∷_}
+use mathlib.Core.{Bool.{Bool, true, false, _&&_, _||_, cond}, List.{List, [], _∷_}}
 use lib.Dec.{leb, ltb, eqb}
 use Rattle.answers.specs.Answers.{isAccepted}
-use Rattle.answers.specs.declared.Answer.{Answer}
-use Rattle.answers.specs.declared.Answer.the-variants.{Accepted, Refused}
+use Rattle.answers.specs.declared.Answer.{Answer, the-variants.{Accepted, Refused}}
 use Rattle.layout.specs.declared.Layout.{Layout}
-use Rattle.protection.specs.declared.Protection.{Protection}
-use Rattle.protection.specs.declared.Protection.the-variants.{Unprotected, Protected}
+use Rattle.protection.specs.declared.Protection.{Protection, the-variants.{Unprotected, Protected}}
 use Rattle.model.specs.Model.{Rules}
 use Rattle.guarantees.specs.Table.{Operation, reads, writes, Call, tabled, covers}
 

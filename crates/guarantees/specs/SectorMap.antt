@@ -2,17 +2,14 @@
 -- header area, and each has its tweak.
 -- `hostSector`, `userSector`, `tweakNumber` and `tweakOf` are the definitions that the contracts of `sector_map` cite. Assumes nothing.
 use Prim.Native.Nat.{ℕ, _+_, _-_, _*_, _/_, _≤_, _<_}
-use mathlib.Core.Path.{_≡_}
-use mathlib.Core.List.{List}
+use mathlib.Core.{Path._≡_, List.List}
 use lib.ListN.{length, getD, take, drop, replicate}
 use Rattle.numbers.specs.Numbers.{littleEndian}
-use Rattle.layout.specs.declared.Layout.{Layout}
-use Rattle.layout.specs.declared.Opened.the-variants.{Accepted}
+use Rattle.layout.specs.declared.{Layout.Layout, Opened.the-variants.Accepted}
 use Rattle.opening.specs.Opening.{opened}
 use Rattle.sector_map.specs.SectorMap.{sectorCount, hostSector, userSector, tweakNumber, tweakOf}
 use Rattle.answers.specs.declared.Numbered.the-variants.{Number, Refused}
-use Rattle.guarantees.specs.Header.{KnownKind, DataArea}
-use Rattle.guarantees.specs.Opening.{HostSize}
+use Rattle.guarantees.specs.{Header.{KnownKind, DataArea}, Opening.HostSize}
 
 -- a layout is sound: its host size is allowed, its kind is known, and its data area keeps the last header line
 pub record Sound (layout : Layout) : Type 0 where

@@ -1,13 +1,9 @@
 -- Reads and writes on a sound view (RULES.md, Reads and writes): calls, the table of refusals, and the host sectors that a call covers by the
 -- sector map. Assumes nothing.
 use Prim.Native.Nat.{ℕ, zero, suc, _+_, _*_, _/_}
-use mathlib.Core.Bool.{Bool, not, cond}
-use mathlib.Core.List.{List, [], _∷_}
-use lib.Dec.{leb, eqb}
-use lib.ListN.{length}
-use Rattle.answers.specs.declared.Answer.{Answer}
-use Rattle.answers.specs.declared.Answer.the-variants.{Accepted, Refused}
-use Rattle.answers.specs.declared.Numbered.{Numbered}
+use mathlib.Core.{Bool.{Bool, not, cond}, List.{List, [], _∷_}}
+use lib.{Dec.{leb, eqb}, ListN.length}
+use Rattle.answers.specs.declared.{Answer.{Answer, the-variants.{Accepted, Refused}}, Numbered.Numbered}
 use Rattle.answers.specs.declared.Numbered.the-variants as numbered
 use Rattle.layout.specs.declared.Layout.{Layout}
 use Rattle.sector_map.specs.SectorMap.{hostSector}

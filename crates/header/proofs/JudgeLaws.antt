@@ -2,13 +2,9 @@
 -- Assumes nothing.
 use Prim.Native.Nat.{ℕ}
 use native.Mathlib.Omega.{arith}
-use mathlib.Core.Path.{_≡_, ap}
-use mathlib.Core.Bool.{Bool, true, false}
-use mathlib.Core.List.{List}
+use mathlib.Core.{Path.{_≡_, ap}, Bool.{Bool, true, false}, List.List}
 use Rattle.answers.specs.Answers.{line}
-use Rattle.layout.specs.declared.Layout.{Layout}
-use Rattle.layout.specs.declared.Opened.{Opened}
-use Rattle.layout.specs.declared.Opened.the-variants.{Accepted, Refused}
+use Rattle.layout.specs.declared.{Layout.Layout, Opened.{Opened, the-variants.{Accepted, Refused}}}
 use Rattle.header.specs.Header.{magicOf, fieldsOf, isHeader, acceptedLayout, judge}
 use Rattle.header.specs.Header.{versionRule, reservedRule, flagsRule, sectorSizeRule, hiddenSizeRule, areaRule}
 

@@ -1,18 +1,13 @@
 -- The 512 bytes of a header (RULES.md, Header bytes): their fields, when they are a header, and the lines that an accepted header keeps.
 -- What the contracts of `header` cite, in the rules' order. Assumes nothing.
 use Prim.Native.Nat.{ℕ, _-_, _/_, _%_}
-use mathlib.Core.Bool.{Bool, true, _&&_, not, cond}
-use mathlib.Core.List.{List, [], _∷_}
-use lib.Dec.{leb, eqb}
-use lib.ListN.{length}
-use Rattle.numbers.specs.Bytes.{fieldPart, sameBytes, allZero}
-use Rattle.numbers.specs.Numbers.{bigEndian, littleEndian}
+use mathlib.Core.{Bool.{Bool, true, _&&_, not, cond}, List.{List, [], _∷_}}
+use lib.{Dec.{leb, eqb}, ListN.length}
+use Rattle.numbers.specs.{Bytes.{fieldPart, sameBytes, allZero}, Numbers.{bigEndian, littleEndian}}
 use Rattle.numbers.specs.declared.Field.{Field}
 use Rattle.crc32.specs.Crc32.{crc32}
 use Rattle.answers.specs.Answers.{line}
-use Rattle.layout.specs.Rules.{standard, hidden, dataAreaRule}
-use Rattle.layout.specs.declared.Layout.{Layout}
-use Rattle.layout.specs.declared.Opened.{Opened}
+use Rattle.layout.specs.{Rules.{standard, hidden, dataAreaRule}, declared.{Layout.Layout, Opened.Opened}}
 use Rattle.layout.specs.declared.Opened.the-variants.{Accepted, Refused}
 use Rattle.header.specs.declared.Fields.{Fields}
 

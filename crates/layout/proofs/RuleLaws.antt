@@ -2,13 +2,11 @@
 -- Assumes nothing.
 use Prim.Native.Nat.{ℕ, _+_, _%_, _≤_, _<_}
 use native.Mathlib.Omega.{arith}
-use mathlib.Core.Path.{_≡_, refl, sym, _∙_}
-use mathlib.Core.Bool.{Bool, true, false, _&&_, cond, and-false}
+use mathlib.Core.{Path.{_≡_, refl, sym, _∙_}, Bool.{Bool, true, false, _&&_, cond, and-false}}
 use borrow.Author.Tests.{leb-true, lt-leb}
 use lib.Dec.{leb, eqb}
-use Rattle.layout.specs.Soundness.{sound}
 use Rattle.layout.specs.declared.Layout.{Layout}
-use Rattle.layout.specs.Rules.{standard, hidden, sectorBytes, headersSize, minHostSize, maxHostSize, hostSizeRule, placeRule, sectorsRule, dataAreaRule}
+use Rattle.layout.specs.Rules.{standard, hidden, sectorBytes, headersSize, minHostSize, maxHostSize, hostSizeRule, placeRule, sectorsRule, dataAreaRule, sound}
 
 pub and-true-left : (a b : Bool) → (a && b) ≡ true → a ≡ true
 and-true-left true b h = refl

@@ -1,7 +1,6 @@
 -- What opening answers, as a number (RULES.md, Refusals). Assumes nothing.
 use Prim.Native.Nat.{ℕ}
-use Rattle.layout.specs.declared.Opened.{Opened}
-use Rattle.layout.specs.declared.Opened.the-variants.{Accepted, Refused}
+use Rattle.layout.specs.declared.Opened.{Opened, the-variants.{Accepted, Refused}}
 
 -- the refusal number of opening
 unfoldable pub openedRefusal : Opened → ℕ

@@ -1,4 +1,4 @@
--- The rules for a host's size and for a data area in it: what the contracts of `layout` cite, and `header` and `opening` above it.
+-- The rules for a host's size, for a data area in it, and for a layout: what the contracts of `layout` cite, and all that is above it.
 -- Sizes are in bytes; the two kinds of volume are numbers. Assumes nothing.
 use Prim.Native.Nat.{ℕ, _+_, _%_, _^_}
 use mathlib.Core.Bool.{Bool, _&&_, cond}
@@ -50,3 +50,8 @@ sectorsRule layout =
 -- line 10 of a header's rules (RULES.md, Header bytes) with E taken as V
 unfoldable pub dataAreaRule : Layout → Bool
 dataAreaRule layout = sectorsRule layout && placeRule layout
+
+-- a layout that anybody may have made up is sound (RULES.md, Views): S and the data area keep their rules, with E taken as V; its magic,
+-- versions and candidate are not judged
+unfoldable pub sound : Layout → Bool
+sound layout = hostSizeRule (layout .«host_size») && dataAreaRule layout

@@ -2,8 +2,7 @@
 // and a data area keep. Assumes nothing; no function has a `requires`.
 ghost use mathlib.Core.Path.{_≡_};
 ghost use Rattle.layout.specs.Opened.{openedRefusal};
-ghost use Rattle.layout.specs.Rules.{hostSizeRule, placeRule, dataAreaRule};
-ghost use Rattle.layout.specs.Soundness.{sound};
+ghost use Rattle.layout.specs.Rules.{hostSizeRule, placeRule, dataAreaRule, sound};
 
 // The kinds of a volume, as a layout has them.
 pub const STANDARD: u64 = 0;

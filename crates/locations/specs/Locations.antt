@@ -1,16 +1,10 @@
 -- Where a header is read (RULES.md, Header locations): what the contract of `locate` cites. Assumes nothing.
 use Prim.Native.Nat.{ℕ, _-_}
-use mathlib.Core.Bool.{Bool}
-use mathlib.Core.List.{List, [], _∷_}
-use lib.Dec.{leb}
-use lib.ListN.{getD}
+use mathlib.Core.{Bool.Bool, List.{List, [], _∷_}}
+use lib.{Dec.leb, ListN.getD}
 use Rattle.layout.specs.Rules.{standard, hidden, hostSizeRule}
-use Rattle.locations.specs.declared.Origin.{Origin}
-use Rattle.locations.specs.declared.Origin.the-variants.{HostStart, HostEnd}
-use Rattle.locations.specs.declared.Location.{Location}
-use Rattle.answers.specs.Answers.{line}
-use Rattle.answers.specs.declared.Numbered.{Numbered}
-use Rattle.answers.specs.declared.Numbered.the-variants.{Number, Refused}
+use Rattle.locations.specs.declared.{Origin.{Origin, the-variants.{HostStart, HostEnd}}, Location.Location}
+use Rattle.answers.specs.{Answers.line, declared.Numbered.{Numbered, the-variants.{Number, Refused}}}
 
 -- the four header locations, by location code: distance, the end of the host it counts from, and the kind of volume
 unfoldable pub locations : List Location

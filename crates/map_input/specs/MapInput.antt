@@ -1,13 +1,9 @@
 -- The map program's input (RULES.md, Map program): what the contract of `open_input` cites. Assumes nothing.
 use Prim.Native.Nat.{ℕ}
-use mathlib.Core.Bool.{cond}
-use mathlib.Core.List.{List}
-use lib.Dec.{eqb}
-use lib.ListN.{length}
-use Rattle.numbers.specs.Numbers.{bigEndian}
-use Rattle.layout.specs.declared.Opened.{Opened}
-use Rattle.layout.specs.declared.Opened.the-variants.{Refused}
-use Rattle.numbers.specs.Bytes.{part}
+use mathlib.Core.{Bool.cond, List.List}
+use lib.{Dec.eqb, ListN.length}
+use Rattle.numbers.specs.{Numbers.bigEndian, Bytes.part}
+use Rattle.layout.specs.declared.Opened.{Opened, the-variants.Refused}
 use Rattle.opening.specs.Opening.{opened}
 
 -- the size of the input: S in 8 bytes, one location code, one candidate of 512 bytes, and nothing more

@@ -1,13 +1,11 @@
 -- Laws of a number's decimal digits, as the loop writes them: from the last on, each before those that are written. Assumes nothing.
-use mathlib.Core.Path.{_≡_, refl, ap, _∙_}
-use mathlib.Core.List.{List, [], _∷_, _++_}
+use mathlib.Core.{Path.{_≡_, refl, ap, _∙_}, List.{List, [], _∷_, _++_}}
 use Prim.Native.Nat.{ℕ, zero, suc, _+_, _-_, _*_, _/_, _%_, _^_, _≤_, _<_}
 use native.Mathlib.Nat.{pow-suc}
 use native.Mathlib.Numerals.{add-one}
 use native.Mathlib.Omega.{arith}
 use borrow.Author.Tests.{ne-eqb}
-use lib.ListN.{length, take, drop, set, drop-of-length-le}
-use lib.Seq.{append-snoc, set-split, drop-at, length-take-le}
+use lib.{ListN.{length, take, drop, set, drop-of-length-le}, Seq.{append-snoc, set-split, drop-at, length-take-le}}
 use Rattle.map_output.specs.Decimal.{digits, decimal}
 
 pub digits-none : (most : ℕ) → digits most 0 ≡ []

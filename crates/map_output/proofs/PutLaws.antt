@@ -1,11 +1,9 @@
 -- Laws of texts written into a buffer one behind the other. Assumes nothing.
-use mathlib.Core.Path.{_≡_, sym, ap, _∙_}
-use mathlib.Core.List.{List, _++_, append-assoc}
+use mathlib.Core.{Path.{_≡_, sym, ap, _∙_}, List.{List, _++_, append-assoc}}
 use Prim.Native.Nat.{ℕ, _+_, _≤_}
 use native.Mathlib.Nat.{zero-add}
 use native.Mathlib.Omega.{arith}
-use lib.ListN.{length, take, drop, length-append}
-use lib.Seq.{take-at, drop-append-add, drop-drop, length-take-le}
+use lib.{ListN.{length, take, drop, length-append}, Seq.{take-at, drop-append-add, drop-drop, length-take-le}}
 use Rattle.map_output.specs.MapOutput.{Written, Rendered}
 
 -- two texts, the second at the position behind the first

@@ -1,6 +1,5 @@
 -- A text as bytes: what the words of `MapOutput` are written with. Assumes nothing.
-use Prim.Native.Nat.{ℕ}
-use Prim.Native.Char.{code}
+use Prim.Native.{Nat.ℕ, Char.code}
 use Prim.Native.String as text
 use mathlib.Core.List.{List, [], _∷_}
 

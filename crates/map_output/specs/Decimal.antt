@@ -1,10 +1,7 @@
 -- A number of 64 bits in decimal, in ASCII: what the contracts of `map_output` cite. Assumes nothing.
 use Prim.Native.Nat.{ℕ, zero, suc, _+_, _/_, _%_, _<_}
-use mathlib.Core.Path.{_≡_}
-use mathlib.Core.Bool.{cond}
-use mathlib.Core.List.{List, [], _∷_, _++_}
-use lib.Dec.{eqb}
-use lib.ListN.{length, drop}
+use mathlib.Core.{Path._≡_, Bool.cond, List.{List, [], _∷_, _++_}}
+use lib.{Dec.eqb, ListN.{length, drop}}
 
 -- a number's last digits, the most significant first: at most so many, and none for 0
 unfoldable pub digits : ℕ → ℕ → List ℕ

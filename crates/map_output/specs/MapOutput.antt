@@ -1,16 +1,11 @@
 -- The map program's output (RULES.md, Map program), in ASCII: what the contracts of `map_output` cite. Assumes nothing.
 use Prim.Native.Nat.{ℕ, _+_, _-_, _≤_}
-use mathlib.Core.Path.{_≡_}
-use mathlib.Core.Bool.{Bool, cond}
-use mathlib.Core.List.{List, [], _∷_, _++_}
-use lib.Dec.{eqb}
-use lib.ListN.{length, take, drop}
-use Rattle.layout.specs.Rules.{hidden}
-use Rattle.layout.specs.declared.Layout.{Layout}
+use mathlib.Core.{Path._≡_, Bool.{Bool, cond}, List.{List, [], _∷_, _++_}}
+use lib.{Dec.eqb, ListN.{length, take, drop}}
+use Rattle.layout.specs.{Rules.hidden, declared.Layout.Layout}
 use Rattle.header.specs.Header.{vera, veraMagic, trueMagic}
 use Rattle.sector_map.specs.SectorMap.{sectors, firstSector}
-use Rattle.map_output.specs.Ascii.{ascii}
-use Rattle.map_output.specs.Decimal.{decimal}
+use Rattle.map_output.specs.{Ascii.ascii, Decimal.decimal}
 
 -- a line: a label, a space, a value and a line feed
 unfoldable pub textLine : List ℕ → List ℕ → List ℕ

@@ -1,9 +1,7 @@
 -- What a side sees does not depend on the other side's calls: its replies, and the model as far as it is the side's, are those of its calls
 -- alone. Assumes nothing.
 use Prim.Native.Nat.{ℕ}
-use mathlib.Core.Path.{_≡_, refl, sym, ap, ap₂, _∙_}
-use mathlib.Core.Bool.{Bool, false}
-use mathlib.Core.List.{List, [], _∷_, map}
+use mathlib.Core.{Path.{_≡_, refl, sym, ap, ap₂, _∙_}, Bool.{Bool, false}, List.{List, [], _∷_, map}}
 use Rattle.model.specs.Model.{Rules, State, Reply, reply, next, replies, final}
 use Rattle.model.specs.Sides.{Side, outer, hidden, Turn, turn, Interleaves, none, fromOuter, fromHidden}
 use Rattle.model.specs.Sides.{Both, at, sided, bySide}

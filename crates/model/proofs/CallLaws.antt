@@ -1,9 +1,7 @@
 -- What calls of the model do: the image keeps its length, each sector is as the last accepted write that covers it left it, or as it
 -- began, and an accepted read gives what stands there. Assumes nothing.
 use Prim.Native.Nat.{ℕ}
-use mathlib.Core.Path.{_≡_, refl, ap, fun-ext, _∙_}
-use mathlib.Core.Bool.{Bool, true, false, _&&_, cond}
-use mathlib.Core.List.{List, [], _∷_}
+use mathlib.Core.{Path.{_≡_, refl, ap, fun-ext, _∙_}, Bool.{Bool, true, false, _&&_, cond}, List.{List, [], _∷_}}
 use lib.ListN.{length}
 use Rattle.model.specs.Sectors.{sectorAt, lay, gather, pieceFor}
 use Rattle.model.specs.Model.{Rules, State, judged, bufferAfter, imageAfter, sectorAfter, reply, next, replies, final, contents}

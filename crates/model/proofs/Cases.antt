@@ -1,8 +1,7 @@
 -- A claim over a test's value, from the claim where the test is true and the claim where it is false.
 -- Assumes nothing.
 use Prim.Native.Nat.{ℕ}
-use mathlib.Core.Path.{_≡_, refl, sym}
-use mathlib.Core.Bool.{Bool, true, false, _&&_, true≢false}
+use mathlib.Core.{Path.{_≡_, refl, sym}, Bool.{Bool, true, false, _&&_, true≢false}}
 use lib.Dec.{eqb}
 use borrow.Author.Tests.{eqb-true, eqb-false}
 

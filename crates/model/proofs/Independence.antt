@@ -1,12 +1,8 @@
 -- Any two interleavings of the same two lists end alike, and tell each side the same, but for what outer reads give of protected sectors.
 -- Assumes nothing.
 use Prim.Native.Nat.{ℕ}
-use mathlib.Core.Path.{_≡_, sym, ap, _∙_, subst₂}
-use mathlib.Core.Bool.{Bool, not}
-use mathlib.Core.List.{List, map}
-use Rattle.model.specs.Sectors.{sectorAt}
-use Rattle.model.specs.Model.{Rules, State, stateWith, Reply, replies, final}
-use Rattle.model.specs.Runs.{Run}
+use mathlib.Core.{Path.{_≡_, sym, ap, _∙_, subst₂}, Bool.{Bool, not}, List.{List, map}}
+use Rattle.model.specs.{Sectors.sectorAt, Model.{Rules, State, stateWith, Reply, replies, final}, Runs.Run}
 use Rattle.model.specs.Sides.{Side, outer, hidden, Turn, Interleaves, Both, at, eachWith, OnSide, sided, bySide, unprotected}
 use Rattle.model.proofs.Alone.{picks-outer, picks-hidden, picked-alike}
 use Rattle.model.proofs.Cases.{test-cases}

@@ -1,11 +1,8 @@
 -- What the rules of a view's calls owe the laws about its runs. Assumes nothing.
 use Prim.Native.Nat.{ℕ, _+_, _*_, _≤_}
-use mathlib.Core.Path.{_≡_}
-use mathlib.Core.Bool.{true}
-use mathlib.Core.List.{List, [], _∷_}
+use mathlib.Core.{Path._≡_, Bool.true, List.{List, [], _∷_}}
 use lib.ListN.{length}
-use Rattle.model.specs.Model.{Rules}
-use Rattle.model.specs.Sides.{Side, at, sided}
+use Rattle.model.specs.{Model.Rules, Sides.{Side, at, sided}}
 
 -- each number of a list is so
 abbrev pub Every : (ℕ → Type 0) → List ℕ → Type 0

@@ -2,9 +2,7 @@
 -- Assumes nothing.
 use Prim.Native.Nat.{ℕ, _+_, _*_, _≤_}
 use native.Mathlib.Omega.{arith}
-use mathlib.Core.Path.{_≡_, refl, sym, ap₂, _∙_}
-use mathlib.Core.Bool.{cond}
-use mathlib.Core.List.{List, [], _∷_, _++_}
+use mathlib.Core.{Path.{_≡_, refl, sym, ap₂, _∙_}, Bool.cond, List.{List, [], _∷_, _++_}}
 use lib.ListN.{length, take, drop, length-take, length-drop}
 use Rattle.model.specs.Sectors.{sectorAt, setSector, lay, gather, pieceFor}
 use Rattle.model.proofs.Cases.{eqb-cases}

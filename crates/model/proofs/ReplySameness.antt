@@ -2,13 +2,9 @@
 -- protected sectors. Assumes nothing.
 use Prim.Native.Nat.{ℕ, _+_, _*_, _≤_}
 use native.Mathlib.Omega.{arith}
-use mathlib.Core.Path.{_≡_, refl, ap, ap₂, _∙_}
-use mathlib.Core.Bool.{Bool, true, false, not, _&&_, cond}
-use mathlib.Core.List.{List, [], _∷_}
-use lib.ListN.{length}
-use lib.Seq.{take-at, drop-at}
-use Rattle.model.specs.Sectors.{sectorAt, gather}
-use Rattle.model.specs.Model.{Rules, State, judged, bufferAfter, reply}
+use mathlib.Core.{Path.{_≡_, refl, ap, ap₂, _∙_}, Bool.{Bool, true, false, not, _&&_, cond}, List.{List, [], _∷_}}
+use lib.{ListN.length, Seq.{take-at, drop-at}}
+use Rattle.model.specs.{Sectors.{sectorAt, gather}, Model.{Rules, State, judged, bufferAfter, reply}}
 use Rattle.model.specs.Sides.{Side, outer, hidden, turn, Both, at, sided, unprotectedPieces, unprotected}
 use Rattle.model.proofs.Cases.{test-cases, both-true}
 use Rattle.model.proofs.Lawful.{Every, Sized, Lawful}

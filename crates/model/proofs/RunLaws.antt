@@ -1,8 +1,6 @@
 -- Where every step is the model's, so is every run, and what holds of the model holds of it. Assumes nothing.
 use Prim.Native.Nat.{ℕ}
-use mathlib.Core.Path.{_≡_, refl, sym, ap, ap₂, _∙_, subst}
-use mathlib.Core.Bool.{true, false}
-use mathlib.Core.List.{List, [], _∷_, map}
+use mathlib.Core.{Path.{_≡_, refl, sym, ap, ap₂, _∙_, subst}, Bool.{true, false}, List.{List, [], _∷_, map}}
 use Rattle.model.specs.Sectors.{sectorAt, gather}
 use Rattle.model.specs.Model.{Rules, State, stateWith, Reply, reply, next, replies, final, contents}
 use Rattle.model.specs.Runs.{Run, done, step}

@@ -1,13 +1,11 @@
 -- Two models are the same for a side: its lock, the image's length, and each sector of its own. A call of the side keeps that, and a call
 -- of the other side changes nothing of it. Assumes nothing.
 use Prim.Native.Nat.{ℕ}
-use mathlib.Core.Path.{_≡_, refl, sym, ap, ap₂, _∙_}
-use mathlib.Core.Bool.{Bool, true, false, not, _&&_, cond, true≢false}
+use mathlib.Core.{Path.{_≡_, refl, sym, ap, ap₂, _∙_}, Bool.{Bool, true, false, not, _&&_, cond, true≢false}}
 use mathlib.Core.List.{List, [], _∷_}
 use lib.ListN.{length}
 use borrow.Author.Tests.{not-true}
-use Rattle.model.specs.Sectors.{sectorAt, pieceFor}
-use Rattle.model.specs.Model.{Rules, State, judged, sectorAfter, next}
+use Rattle.model.specs.{Sectors.{sectorAt, pieceFor}, Model.{Rules, State, judged, sectorAfter, next}}
 use Rattle.model.specs.Sides.{Side, outer, hidden, Turn, turn, Both, at, sided}
 use Rattle.model.proofs.CallLaws.{length-next, sector-next}
 use Rattle.model.proofs.Cases.{test-cases, both-true}

@@ -2,10 +2,8 @@
 -- Assumes nothing.
 use Prim.Native.Nat.{ℕ, _+_, _-_, _*_, _/_, _%_, _≤_, _<_}
 use native.Mathlib.Omega.{arith}
-use mathlib.Core.Path.{_≡_, sym, ap, _∙_}
-use mathlib.Core.List.{List, _++_, append-assoc}
-use lib.Dec.{ltb}
-use lib.ListN.{length, take, drop, getD, length-append, length-take, length-drop, take-append-drop}
+use mathlib.Core.{Path.{_≡_, sym, ap, _∙_}, List.{List, _++_, append-assoc}}
+use lib.{Dec.ltb, ListN.{length, take, drop, getD, length-append, length-take, length-drop, take-append-drop}}
 use lib.Seq.{take-append-le, drop-append-le, drop-append-add, take-at, drop-at, getD-take, getD-drop, ext-getD}
 use borrow.Author.Tests.{ltb-true, ltb-false}
 use Rattle.model.specs.Sectors.{sectorAt, setSector}

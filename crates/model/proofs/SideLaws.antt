@@ -1,7 +1,6 @@
 -- The two sides: what is put on one is there, and leaves the other; and where each side's steps are its rules', so are both sides' together.
 -- Assumes nothing.
-use mathlib.Core.Path.{_≡_, refl, sym, ap, _∙_, subst}
-use mathlib.Core.Bool.{Bool, true, false, true≢false}
+use mathlib.Core.{Path.{_≡_, refl, sym, ap, _∙_, subst}, Bool.{Bool, true, false, true≢false}}
 use Rattle.model.specs.Model.{Rules, State, stateWith, Reply, judged, bufferAfter, imageAfter, reply, next}
 use Rattle.model.specs.Sides.{Side, outer, hidden, Turn, Both, at, put, eachWith, OnSide, sided}
 use Rattle.model.proofs.RunLaws.{Models}

@@ -1,8 +1,7 @@
 -- The reference model of reads and writes on a view (RULES.md, The reference model), over any rules of its calls. It begins with an image
 -- and a lock, and is shown nothing of what the code returns. Assumes nothing.
 use Prim.Native.Nat.{ℕ}
-use mathlib.Core.Bool.{Bool, not, _&&_, cond}
-use mathlib.Core.List.{List, [], _∷_}
+use mathlib.Core.{Bool.{Bool, not, _&&_, cond}, List.{List, [], _∷_}}
 use lib.ListN.{length}
 use Rattle.model.specs.Sectors.{sectorAt, lay, gather, pieceFor}
 

@@ -1,10 +1,8 @@
 -- An image as sectors of 512 bytes: one read, one replaced, and a buffer's pieces laid into several, or gathered from them, in order.
 -- Assumes nothing.
 use Prim.Native.Nat.{ℕ, _+_, _*_}
-use mathlib.Core.Bool.{cond}
-use mathlib.Core.List.{List, [], _∷_, _++_}
-use lib.Dec.{eqb}
-use lib.ListN.{take, drop}
+use mathlib.Core.{Bool.cond, List.{List, [], _∷_, _++_}}
+use lib.{Dec.eqb, ListN.{take, drop}}
 
 -- a sector's 512 bytes in an image
 unfoldable pub sectorAt : ℕ → List ℕ → List ℕ

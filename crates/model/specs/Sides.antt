@@ -1,9 +1,7 @@
 -- Calls on two views of one image, an outer and a hidden one: their interleavings, their rules together, and what each side is told.
 -- Assumes nothing.
 use Prim.Native.Nat.{ℕ}
-use mathlib.Core.Path.{_≡_}
-use mathlib.Core.Bool.{Bool, not, _&&_, cond}
-use mathlib.Core.List.{List, [], _∷_}
+use mathlib.Core.{Path._≡_, Bool.{Bool, not, _&&_, cond}, List.{List, [], _∷_}}
 use lib.ListN.{take, drop}
 use Rattle.model.specs.Model.{Rules, State, Reply}
 

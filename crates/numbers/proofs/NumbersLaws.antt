@@ -1,12 +1,10 @@
 -- Laws of the numbers that bytes spell: one byte more, the bound, and what 64 bits keep of them. Assumes nothing.
-use mathlib.Core.Path.{_≡_, refl}
-use mathlib.Core.List.{List, [], _∷_, _++_}
+use mathlib.Core.{Path.{_≡_, refl}, List.{List, [], _∷_, _++_}}
 use Prim.Native.Nat.{ℕ, suc, _+_, _*_, _%_, _^_, _≤_, _<_}
 use native.Mathlib.Nat.{lt-of-lt-of-le, mul-le-mul-right, mul-assoc, one-mul, pow-succ', pow-le-pow-right, zero-lt-suc}
 use native.Mathlib.Numerals.{add-one}
 use native.Mathlib.Omega.{arith}
-use lib.ListN.{length, getD, take, drop}
-use lib.Seq.{take-suc, drop-cons}
+use lib.{ListN.{length, getD, take, drop}, Seq.{take-suc, drop-cons}}
 use Rattle.numbers.specs.Numbers.{bigEndianFrom, bigEndian, littleEndian, ReadAs}
 
 -- ---- one byte more

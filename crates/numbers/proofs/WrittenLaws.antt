@@ -1,13 +1,11 @@
 -- Laws of a number written in bytes, in either order: its bytes one by one, what they spell, and zeros past its end. Assumes nothing.
-use mathlib.Core.Path.{_≡_, refl, ap, sym, _∙_}
-use mathlib.Core.List.{List, [], _∷_, _++_, append-nil}
+use mathlib.Core.{Path.{_≡_, refl, ap, sym, _∙_}, List.{List, [], _∷_, _++_, append-nil}}
 use Prim.Native.Nat.{ℕ, zero, suc, zero-le, _+_, _-_, _*_, _/_, _%_, _^_, _≤_, _<_}
 use native.Mathlib.Nat.{mod-lt, zero-lt-suc, mod-one, pow-suc, pow-succ', pow-le-pow-right, zero-add, add-zero, suc-add}
 use native.Mathlib.Nat.{div-div-eq-div-mul, div-one, div-eq-of-lt}
 use native.Mathlib.Numerals.{add-one}
 use native.Mathlib.Omega.{arith}
-use lib.Arith.{mod-mul}
-use lib.ListN.{length, getD, take, drop, set, replicate, length-append}
+use lib.{Arith.mod-mul, ListN.{length, getD, take, drop, set, replicate, length-append}}
 use lib.Seq.{take-suc-set, append-snoc, take-all, drop-cons, drop-set-lt, getD-set-same, lt-length-set}
 use Rattle.numbers.specs.Numbers.{bigEndian, bigEndianFrom, bigEndianBytes, littleEndian, littleEndianBytes}
 use Rattle.numbers.proofs.NumbersLaws.{big-endian-snoc}

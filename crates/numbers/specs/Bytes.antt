@@ -1,9 +1,7 @@
 -- Parts of a list of bytes, and tests of them: what the fields and rules of a header are made of. Assumes nothing.
 use Prim.Native.Nat.{ℕ}
-use mathlib.Core.Bool.{Bool, true, false, _&&_}
-use mathlib.Core.List.{List, [], _∷_}
-use lib.Dec.{eqb}
-use lib.ListN.{take, drop}
+use mathlib.Core.{Bool.{Bool, true, false, _&&_}, List.{List, [], _∷_}}
+use lib.{Dec.eqb, ListN.{take, drop}}
 use Rattle.numbers.specs.declared.Field.{Field}
 
 -- the size bytes from an offset on; what would lie past the end is left out

@@ -1,7 +1,6 @@
 -- Numbers of any count of bytes, in either order (RULES.md, Header bytes): what the contracts of `numbers`, and every field above it, cite. Assumes nothing.
 use Prim.Native.Nat.{ℕ, zero, suc, _+_, _*_, _/_, _%_, _^_, _≤_}
-use mathlib.Core.Path.{_≡_}
-use mathlib.Core.List.{List, [], _∷_, _++_}
+use mathlib.Core.{Path._≡_, List.{List, [], _∷_, _++_}}
 
 -- the number a, written on by one base-256 digit for each byte
 unfoldable pub bigEndianFrom : ℕ → List ℕ → ℕ

@@ -2,16 +2,11 @@
 -- Assumes nothing.
 use Prim.Native.Nat.{ℕ, suc, _+_, _*_, _≤_, _<_}
 use native.Mathlib.Omega.{arith}
-use mathlib.Core.Path.{_≡_, refl}
-use mathlib.Core.Bool.{Bool, true, false, _&&_}
-use mathlib.Core.List.{List, [], _∷_, foldl}
-use lib.Dec.{leb, eqb}
-use lib.ListN.{length}
+use mathlib.Core.{Path.{_≡_, refl}, Bool.{Bool, true, false, _&&_}, List.{List, [], _∷_, foldl}}
+use lib.{Dec.{leb, eqb}, ListN.length}
 use borrow.Author.Tests.{leb-true, eqb-true}
 use Rattle.answers.specs.Answers.{line}
-use Rattle.layout.specs.Rules.{hostSizeRule}
-use Rattle.layout.specs.declared.Layout.{Layout}
-use Rattle.layout.specs.declared.Opened.{Opened}
+use Rattle.layout.specs.{Rules.hostSizeRule, declared.{Layout.Layout, Opened.Opened}}
 use Rattle.layout.specs.declared.Opened.the-variants.{Accepted, Refused}
 use Rattle.layout.proofs.RuleLaws.{and-true-left, and-true-right}
 use Rattle.locations.specs.Locations.{locationOf}

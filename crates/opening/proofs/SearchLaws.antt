@@ -4,13 +4,9 @@ use Prim.Native.Nat.{ℕ, suc, _+_, _<_}
 use native.Mathlib.Nat.{add-zero, zero-add, add-suc, suc-add}
 use native.Mathlib.Numerals.{add-one}
 use native.Mathlib.Omega.{arith}
-use mathlib.Core.Path.{_≡_, refl, sym, ap, _∙_}
-use mathlib.Core.List.{List, [], _∷_, _++_, foldl, foldl-append}
-use lib.ListN.{length, getD, take, drop, length-take, take-append-drop}
-use lib.Seq.{take-suc}
-use Rattle.layout.specs.declared.Layout.{Layout}
-use Rattle.layout.specs.declared.Opened.{Opened}
-use Rattle.layout.specs.declared.Opened.the-variants.{Accepted, Refused}
+use mathlib.Core.{Path.{_≡_, refl, sym, ap, _∙_}, List.{List, [], _∷_, _++_, foldl, foldl-append}}
+use lib.{ListN.{length, getD, take, drop, length-take, take-append-drop}, Seq.take-suc}
+use Rattle.layout.specs.declared.{Layout.Layout, Opened.{Opened, the-variants.{Accepted, Refused}}}
 use Rattle.locations.specs.Locations.{locationOf}
 use Rattle.header.specs.Header.{judge}
 use Rattle.opening.specs.Opening.{candidateAt, judgements, further, searched}

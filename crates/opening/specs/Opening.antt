@@ -1,15 +1,10 @@
 -- Opening (RULES.md, Opening): the tests before any candidate, the search in order, and the key bytes.
 -- What the contracts of `open` and `key_bytes` cite. Assumes nothing.
 use Prim.Native.Nat.{ℕ, suc, _+_, _*_}
-use mathlib.Core.Path.{_≡_}
-use mathlib.Core.Bool.{Bool, true, _&&_, cond}
-use mathlib.Core.List.{List, [], _∷_, foldl}
-use lib.Dec.{leb, eqb}
-use lib.ListN.{length}
+use mathlib.Core.{Path._≡_, Bool.{Bool, true, _&&_, cond}, List.{List, [], _∷_, foldl}}
+use lib.{Dec.{leb, eqb}, ListN.length}
 use Rattle.answers.specs.Answers.{line}
-use Rattle.layout.specs.Rules.{hostSizeRule}
-use Rattle.layout.specs.declared.Opened.{Opened}
-use Rattle.layout.specs.declared.Opened.the-variants.{Accepted, Refused}
+use Rattle.layout.specs.{Rules.hostSizeRule, declared.Opened.{Opened, the-variants.{Accepted, Refused}}}
 use Rattle.numbers.specs.Bytes.{part}
 use Rattle.header.specs.Header.{headerBytes, keysField, judge}
 use Rattle.locations.specs.Locations.{codeRule, locationOf}

@@ -2,16 +2,12 @@
 -- Assumes nothing.
 use Prim.Native.Nat.{ℕ, _+_, _-_, _%_, _≤_, _<_}
 use native.Mathlib.Omega.{arith}
-use mathlib.Core.Path.{_≡_, sym, _∙_}
-use mathlib.Core.Bool.{true, _&&_}
+use mathlib.Core.{Path.{_≡_, sym, _∙_}, Bool.{true, _&&_}}
 use lib.Dec.{leb}
 use borrow.Author.Tests.{eq-eqb, le-leb, lt-ltb}
-use Rattle.answers.specs.declared.Answer.{Answer}
-use Rattle.answers.specs.declared.Answer.the-variants.{Accepted}
+use Rattle.answers.specs.declared.Answer.{Answer, the-variants.Accepted}
 use Rattle.answers.proofs.AnswerLaws.{line-accepted}
-use Rattle.layout.specs.Rules.{sectorBytes, standard}
-use Rattle.layout.specs.declared.Layout.{Layout}
-use Rattle.layout.specs.Soundness.{sound}
+use Rattle.layout.specs.{Rules.{sectorBytes, standard, sound}, declared.Layout.Layout}
 use Rattle.layout.proofs.RuleLaws.{and-true-right}
 use Rattle.layout.proofs.TestLaws.{leb-iff}
 use Rattle.protection.specs.Protection.{areaEnd, protectionRule, pairAnswer}

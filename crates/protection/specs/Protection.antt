@@ -3,15 +3,10 @@
 use Prim.Native.Nat.{ℕ, _+_, _-_, _/_, _%_}
 use mathlib.Core.Bool.{Bool, true, _&&_}
 use lib.Dec.{leb, ltb, eqb}
-use Rattle.answers.specs.Answers.{line}
-use Rattle.answers.specs.declared.Answer.{Answer}
-use Rattle.answers.specs.declared.Answer.the-variants.{Accepted, Refused}
+use Rattle.answers.specs.{Answers.line, declared.Answer.{Answer, the-variants.{Accepted, Refused}}}
 use Rattle.extent.specs.declared.Extent.{Extent}
-use Rattle.layout.specs.Rules.{sectorBytes, standard, hidden}
-use Rattle.layout.specs.Soundness.{sound}
-use Rattle.layout.specs.declared.Layout.{Layout}
-use Rattle.protection.specs.declared.Protection.{Protection}
-use Rattle.protection.specs.declared.Protection.the-variants.{Unprotected, Protected}
+use Rattle.layout.specs.{Rules.{sectorBytes, standard, hidden, sound}, declared.Layout.Layout}
+use Rattle.protection.specs.declared.Protection.{Protection, the-variants.{Unprotected, Protected}}
 
 -- the byte past a layout's data area: O+V
 unfoldable pub areaEnd : Layout → ℕ

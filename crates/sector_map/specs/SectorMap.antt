@@ -1,17 +1,11 @@
 -- The sector map (RULES.md, Sector map): user sectors, host sectors and tweaks of a layout. Sectors have 512 bytes.
 -- What the contracts of `sector_map` cite. Assumes nothing.
 use Prim.Native.Nat.{ℕ, _+_, _-_, _/_}
-use mathlib.Core.Bool.{_&&_}
-use mathlib.Core.List.{List, _++_}
-use lib.Dec.{leb, ltb}
-use lib.ListN.{replicate}
+use mathlib.Core.{Bool._&&_, List.{List, _++_}}
+use lib.{Dec.{leb, ltb}, ListN.replicate}
 use Rattle.numbers.specs.Numbers.{littleEndianBytes}
-use Rattle.layout.specs.Rules.{sectorBytes}
-use Rattle.layout.specs.Soundness.{sound}
-use Rattle.layout.specs.declared.Layout.{Layout}
-use Rattle.answers.specs.Answers.{line}
-use Rattle.answers.specs.declared.Numbered.{Numbered}
-use Rattle.answers.specs.declared.Numbered.the-variants.{Number, Refused}
+use Rattle.layout.specs.{Rules.{sectorBytes, sound}, declared.Layout.Layout}
+use Rattle.answers.specs.{Answers.line, declared.Numbered.{Numbered, the-variants.{Number, Refused}}}
 use Rattle.sector_map.specs.declared.Tweak.{Tweak}
 
 -- how many sectors a volume has: V/512

@@ -1,15 +1,11 @@
 -- A read or write of `access` with a view's parts leaves what a read or write on the view does.
 -- Assumes nothing.
 use Prim.Native.Nat.{ℕ}
-use mathlib.Core.Path.{_≡_, refl, ap, _∙_}
-use mathlib.Core.Bool.{Bool}
-use mathlib.Core.List.{List}
+use mathlib.Core.{Path.{_≡_, refl, ap, _∙_}, Bool.Bool, List.List}
 use lib.ListN.{length}
 use Rattle.answers.specs.declared.Answer.{Answer}
-use Rattle.access.specs.Judging.{lockedAfter}
-use Rattle.access.specs.Moving.{filledBy, writtenBy}
-use Rattle.view.specs.Outcomes.{viewRead, viewWrite, after, ReadPost, WritePost}
-use Rattle.view.specs.declared.View.{View}
+use Rattle.access.specs.{Judging.lockedAfter, Moving.{filledBy, writtenBy}}
+use Rattle.view.specs.{Outcomes.{viewRead, viewWrite, after, ReadPost, WritePost}, declared.View.View}
 
 module _ (view : View) (image : List ℕ) (first count : ℕ) (buffer : List ℕ) (answer : Answer) where
   pub read-post : (filled : List ℕ) → answer ≡ viewRead view (length image) first count (length buffer)

@@ -1,14 +1,11 @@
 -- What reads and writes on a view hand back and leave: the judgement and the moving of `access`, and the view. What the contracts of
 -- `View::read` and `View::write` cite. Assumes nothing.
 use Prim.Native.Nat.{ℕ}
-use mathlib.Core.Path.{_≡_}
-use mathlib.Core.List.{List}
+use mathlib.Core.{Path._≡_, List.List}
 use lib.ListN.{length}
 use Rattle.answers.specs.declared.Answer.{Answer}
-use Rattle.access.specs.Judging.{readAnswer, writeAnswer, lockedAfter}
-use Rattle.access.specs.Moving.{filledBy, writtenBy}
-use Rattle.view.specs.declared.Outcome.{Outcome}
-use Rattle.view.specs.declared.View.{View}
+use Rattle.access.specs.{Judging.{readAnswer, writeAnswer, lockedAfter}, Moving.{filledBy, writtenBy}}
+use Rattle.view.specs.declared.{Outcome.Outcome, View.View}
 
 -- what a read of a view answers, for an image and a buffer of these lengths
 abbrev pub viewRead : View → ℕ → ℕ → ℕ → ℕ → Answer

@@ -1,16 +1,12 @@
 -- How a view is made (RULES.md, Views). What the contracts of `plain` and `protected` cite. Assumes nothing.
 use Prim.Native.Nat.{ℕ}
 use mathlib.Core.Bool.{Bool, false}
-use Rattle.answers.specs.Answers.{line}
-use Rattle.answers.specs.declared.Answer.{Answer}
+use Rattle.answers.specs.{Answers.line, declared.Answer.Answer}
 use Rattle.answers.specs.declared.Answer.the-variants as answer
-use Rattle.layout.specs.Soundness.{sound}
-use Rattle.layout.specs.declared.Layout.{Layout}
+use Rattle.layout.specs.{Rules.sound, declared.Layout.Layout}
 use Rattle.protection.specs.Protection.{areaEnd, pairAnswer}
 use Rattle.protection.specs.declared.Protection.the-variants.{Unprotected, Protected}
-use Rattle.view.specs.declared.View.{View}
-use Rattle.view.specs.declared.Viewed.{Viewed}
-use Rattle.view.specs.declared.Viewed.the-variants.{Made, Refused}
+use Rattle.view.specs.declared.{View.View, Viewed.{Viewed, the-variants.{Made, Refused}}}
 
 -- a layout's view with no protected range
 unfoldable pub plainOf : Layout → Bool → View

@@ -1,12 +1,10 @@
 -- The worked cases hold: antt computes both sides.
 -- Assumes nothing.
-use mathlib.Core.Path.{_≡_, refl}
-use mathlib.Core.List.{map}
+use mathlib.Core.{Path.{_≡_, refl}, List.map}
 use Rattle.numbers.specs.Numbers.{bigEndian, bigEndianFrom, bigEndianBytes, littleEndian, littleEndianBytes}
-use Rattle.crc32.specs.Crc32.{crc32, crcFrom, bitSteps, bitStep}
-use Rattle.layout.specs.Rules.{hostSizeRule, placeRule, sectorsRule, dataAreaRule}
-use Rattle.layout.specs.Soundness.{sound}
 use Rattle.numbers.specs.Bytes.{sameBytes, allZero}
+use Rattle.crc32.specs.Crc32.{crc32, crcFrom, bitSteps, bitStep}
+use Rattle.layout.specs.Rules.{hostSizeRule, placeRule, sectorsRule, dataAreaRule, sound}
 use Rattle.header.specs.Header.{magicOf, fieldsOf, checksumsMatch, isHeader, acceptedLayout, judge}
 use Rattle.header.specs.Header.{versionRule, reservedRule, flagsRule, sectorSizeRule, hiddenSizeRule, areaRule}
 use Rattle.locations.specs.Locations.{locations, locationOf, codeRule}
@@ -16,8 +14,7 @@ use Rattle.access.specs.Judging.{checked, apartAnswer, lockAnswer, readAnswer, 
 use Rattle.answers.specs.Answers.{answerRefusal}
 use Rattle.extent.specs.Extents.{has, larger, overlap}
 use Rattle.protection.specs.Protection.{areaEnd, protectionRule, soundProtection, protectedExtent, nests, pairAnswer}
-use Rattle.view.specs.Outcomes.{after}
-use Rattle.view.specs.Views.{plainOf, protectedOf, madeBy, plainView, protectedView}
+use Rattle.view.specs.{Outcomes.after, Views.{plainOf, protectedOf, madeBy, plainView, protectedView}}
 use Rattle.map_output.specs.Decimal.{digits, decimal}
 use Rattle.map_output.specs.MapOutput.{textLine, numberLine, eitherLine, magicLine, kindLine, headerLines, areaLines, sectorLines, lastSector, layoutLines}
 use Rattle.guarantees.specs.MapProgram.{letters}

@@ -1,26 +1,21 @@
 -- The worked cases (RULES.md, Worked cases): the starred ones in one table, and the map program's output, computed from the definitions that
 -- the contracts cite. Assumes nothing.
 use Prim.Native.Nat.{ℕ, _-_, _*_, _/_, _^_}
-use mathlib.Core.Path.{_≡_}
-use mathlib.Core.List.{List, [], _∷_, _++_, map}
+use mathlib.Core.{Path._≡_, List.{List, [], _∷_, _++_, map}}
 use lib.ListN.{replicate}
 use Rattle.numbers.specs.Numbers.{bigEndianBytes}
 use Rattle.crc32.specs.Crc32.{crc32}
 use Rattle.answers.specs.Answers.{answerRefusal}
-use Rattle.answers.specs.declared.Answer.{Answer}
-use Rattle.layout.specs.declared.Opened.{Opened}
-use Rattle.layout.specs.declared.Opened.the-variants.{Accepted, Refused}
+use Rattle.answers.specs.declared.{Answer.Answer, Numbered.Numbered}
+use Rattle.layout.specs.declared.{Opened.{Opened, the-variants.{Accepted, Refused}}, Layout.Layout}
 use Rattle.header.specs.Header.{trueMagic}
-use Rattle.layout.specs.declared.Layout.{Layout}
 use Rattle.opening.specs.Opening.{opened}
 use Rattle.sector_map.specs.SectorMap.{hostSector, userSector, tweakOf}
-use Rattle.answers.specs.declared.Numbered.{Numbered}
 use Rattle.answers.specs.declared.Numbered.the-variants as mapped
 use Rattle.sector_map.specs.declared.Tweak.{Tweak}
 use Rattle.view.specs.Outcomes.{viewRead, viewWrite, after}
 use Rattle.view.specs.Views.{plainView, protectedView}
-use Rattle.view.specs.declared.View.{View}
-use Rattle.view.specs.declared.Viewed.{Viewed}
+use Rattle.view.specs.declared.{View.View, Viewed.Viewed}
 use Rattle.view.specs.declared.Viewed.the-variants as viewed
 use Rattle.map_output.specs.MapOutput.{layoutLines}
 use Rattle.guarantees.specs.MapProgram.{letters}

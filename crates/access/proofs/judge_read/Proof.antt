@@ -1,8 +1,7 @@
 -- `access::judge_read` meets its contract: each return is under the checks that were passed, in their order.
 -- Assumes nothing.
 use borrow.Author.Needs.{needs}
-use mathlib.Core.Path.{_≡_, sym, _∙_}
-use mathlib.Core.Bool.{true}
+use mathlib.Core.{Path.{_≡_, sym, _∙_}, Bool.true}
 use borrow.Author.Tests.{eq-eqb, ne-eqb, le-leb, lt-leb, not-true, not-false}
 use Rattle.protection.specs.Protection.{soundProtection}
 use Rattle.access.specs.Judging.{checked, readAnswer}

@@ -2,8 +2,7 @@
 -- Assumes nothing.
 use denote.Ref.{now}
 use native.Mathlib.Omega.{arith}
-use lib.ListN.{length-set}
-use lib.Seq.{sets-eq}
+use lib.{ListN.length-set, Seq.sets-eq}
 use Rattle.boundary_numbers.specs.BoundaryNumbers.{layoutNumbers}
 use borrow.Author.Needs.{needs}
 use Rattle.boundary_numbers.proofs.store_layout.Statement.{statement}

@@ -1,8 +1,7 @@
 -- `boundary_numbers::store_view` meets its contract.
 -- Assumes nothing.
 use Prim.Native.Nat.{ℕ}
-use mathlib.Core.Path.{ap, _∙_}
-use mathlib.Core.List.{List}
+use mathlib.Core.{Path.{ap, _∙_}, List.List}
 use denote.Ref.{now}
 use lib.Seq.{sets}
 use Rattle.boundary_numbers.specs.BoundaryNumbers.{layoutSize}

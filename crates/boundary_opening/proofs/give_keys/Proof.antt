@@ -2,9 +2,8 @@
 -- Assumes nothing.
 use Prim.Native.Nat.{_+_, _*_, _≤_}
 use mathlib.Core.Path.{refl, subst}
-use Rattle.layout.specs.declared.Opened.{Opened}
+use Rattle.layout.specs.{declared.Opened.Opened, Opened.openedRefusal}
 use native.Mathlib.Omega.{arith}
-use Rattle.layout.specs.Opened.{openedRefusal}
 use Rattle.opening.specs.Opening.{keysOffset, keysSize}
 use Rattle.boundary_opening.specs.BoundaryOpening.{keysLeft}
 use borrow.Author.Needs.{needs}

@@ -1,12 +1,10 @@
 -- `copy::copy_by_local` meets its contract: the local buffer starts with the bytes, and they are copied on.
 -- Assumes nothing.
-use mathlib.Core.Path.{_≡_, sym, ap, _∙_}
-use mathlib.Core.List.{List, _++_}
+use mathlib.Core.{Path.{_≡_, sym, ap, _∙_}, List.{List, _++_}}
 use Prim.Native.Nat.{ℕ}
 use native.Mathlib.Omega.{arith}
 use denote.Ref.{now}
-use lib.ListN.{length, replicate, take, drop}
-use lib.Seq.{take-length}
+use lib.{ListN.{length, replicate, take, drop}, Seq.take-length}
 use borrow.Author.Needs.{needs}
 use Rattle.copy.proofs.CopyLaws.{copied-first}
 use Rattle.copy.proofs.copy_by_local.Statement.{statement}

@@ -1,10 +1,8 @@
 -- `crc32::after_words` meets its contract. The loop's invariant: the register after what is left of the bytes is that after
 -- all of them, and what is left is whole words. Assumes nothing.
-use mathlib.Core.Path.{_≡_, sym, ap, _∙_}
-use mathlib.Core.List.{List}
+use mathlib.Core.{Path.{_≡_, sym, ap, _∙_}, List.List}
 use Prim.Native.Nat.{ℕ, _+_, _≤_, _-_, _%_}
-use lib.Bits.{bitXor}
-use lib.ListN.{length, drop}
+use lib.{Bits.bitXor, ListN.{length, drop}}
 use borrow.Author.Needs.{needs}
 use Rattle.crc32.specs.Crc32.{bitSteps, crcFrom}
 use Rattle.crc32.proofs.WordLaws.{word-step, crc-from-end}

@@ -1,8 +1,7 @@
 -- `crc32::crc_tables` meets its contract: antt computes the entries of `crcTables`, and they are those of the constant.
 -- Assumes nothing.
 use mathlib.Core.Path.{refl}
-use Rattle.crc32.specs.Crc32.{bitStep, bitSteps}
-use Rattle.crc32.specs.Tables.{tablesFrom, crcTables}
+use Rattle.crc32.specs.{Crc32.{bitStep, bitSteps}, Tables.{tablesFrom, crcTables}}
 use Rattle.bits.specs.Bits.{entries}
 use Rattle.crc32.proofs.crc_tables.Statement.{statement}
 use Rattle.crc32.proofs.crc_tables.Tie as tie

@@ -1,12 +1,9 @@
 -- `crc32::sum` meets its contract: the register goes on from the first bytes to the words.
 -- Assumes nothing.
-use mathlib.Core.Path.{sym, ap, _∙_}
-use mathlib.Core.List.{List}
+use mathlib.Core.{Path.{sym, ap, _∙_}, List.List}
 use Prim.Native.Nat.{ℕ, _-_, _%_, _≤_}
 use native.Mathlib.Omega.{arith}
-use lib.Bits.{bitXor}
-use lib.ListN.{length, take, drop}
-use lib.Seq.{length-take-le}
+use lib.{Bits.bitXor, ListN.{length, take, drop}, Seq.length-take-le}
 use Rattle.crc32.specs.Crc32.{crcFrom, crc32}
 use Rattle.crc32.proofs.WordLaws.{crc-from-parts}
 use borrow.Author.Needs.{needs}

@@ -1,7 +1,6 @@
 -- `header::checksums_match` meets its contract: the keys' checksum first, then the fields'.
 -- Assumes nothing.
-use mathlib.Core.Path.{_≡_, ap₂, _∙_}
-use mathlib.Core.List.{List, [], _∷_}
+use mathlib.Core.{Path.{_≡_, ap₂, _∙_}, List.{List, [], _∷_}}
 use Prim.Native.Nat.{ℕ}
 use denote.Ref.{now}
 use borrow.Author.Tests.{eq-eqb, ne-eqb}

@@ -1,7 +1,6 @@
 -- `header::judge` meets its contract: no header by its length, its magic or its checksums, or judged by the first line it breaks.
 -- Assumes nothing.
-use mathlib.Core.Path.{_≡_, sym, _∙_}
-use mathlib.Core.Bool.{true, false}
+use mathlib.Core.{Path.{_≡_, sym, _∙_}, Bool.{true, false}}
 use denote.Ref.{now}
 use borrow.Author.Tests.{eq-eqb, ne-eqb, le-leb, lt-leb, not-true, not-false}
 use Rattle.answers.proofs.KeptLaws.{line-broken}

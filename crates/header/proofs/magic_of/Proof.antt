@@ -1,7 +1,6 @@
 -- `header::magic_of` meets its contract: the two words are the magics of the definition.
 -- Assumes nothing.
-use mathlib.Core.Path.{_≡_, sym, ap, _∙_}
-use mathlib.Core.List.{List}
+use mathlib.Core.{Path.{_≡_, sym, ap, _∙_}, List.List}
 use Prim.Native.Nat.{ℕ}
 use denote.Ref.{now}
 use Rattle.numbers.specs.Bytes.{fieldPart, sameBytes}

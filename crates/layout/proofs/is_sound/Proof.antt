@@ -2,7 +2,7 @@
 -- Assumes nothing.
 use borrow.Author.Tests.{not-true, not-false}
 use mathlib.Core.Path.{sym, _∙_}
-use Rattle.layout.specs.Soundness.{sound}
+use Rattle.layout.specs.Rules.{sound}
 use borrow.Author.Needs.{needs}
 use Rattle.layout.proofs.is_sound.Statement.{statement}
 use Rattle.layout.proofs.is_sound.Tie as tie

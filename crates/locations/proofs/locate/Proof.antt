@@ -1,7 +1,6 @@
 -- `locations::locate` meets its contract: the constant table is the list of the definition, and no distance is past the smallest host's size.
 -- Assumes nothing.
-use mathlib.Core.Path.{_≡_, sym, _∙_}
-use mathlib.Core.Bool.{true}
+use mathlib.Core.{Path.{_≡_, sym, _∙_}, Bool.true}
 use native.Mathlib.Nat.{le-trans}
 use lib.Dec.{lit≤}
 use borrow.Author.Needs.{needs}

@@ -1,8 +1,7 @@
 -- `map_output::decimal` meets its contract. The loop's invariant: the digits that are left to write, and those that are written, are the number's.
 -- Assumes nothing.
 use Prim.Native.Nat.{ℕ, _+_, _-_, _^_, _<_}
-use mathlib.Core.Path.{_≡_, sym, ap, _∙_}
-use mathlib.Core.List.{List, _++_}
+use mathlib.Core.{Path.{_≡_, sym, ap, _∙_}, List.{List, _++_}}
 use native.Mathlib.Omega.{arith}
 use borrow.Author.Needs.{needs}
 use denote.Ref.{now}

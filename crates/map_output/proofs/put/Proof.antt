@@ -1,14 +1,12 @@
 -- `map_output::put` meets its contract. The loop's invariant: the bytes passed are copied.
 -- Assumes nothing.
 use Prim.Native.Nat.{ℕ, _+_, _-_, _≤_, _<_}
-use mathlib.Core.Path.{_≡_, sym, ap, _∙_}
-use mathlib.Core.List.{List, _++_}
+use mathlib.Core.{Path.{_≡_, sym, ap, _∙_}, List.{List, _++_}}
 use native.Mathlib.Numerals.{add-one}
 use native.Mathlib.Omega.{arith}
 use borrow.Author.Needs.{needs}
 use denote.Ref.{now}
-use lib.ListN.{length, take, drop, set, getD, length-set}
-use lib.Seq.{paste, paste-zero, paste-suc, take-all}
+use lib.{ListN.{length, take, drop, set, getD, length-set}, Seq.{paste, paste-zero, paste-suc, take-all}}
 use Rattle.map_output.proofs.put.Statement.{statement}
 use Rattle.map_output.proofs.put.Tie as tie
 

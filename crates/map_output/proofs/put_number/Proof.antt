@@ -1,11 +1,9 @@
 -- `map_output::put_number` meets its contract.
 -- Assumes nothing.
 use Prim.Native.Nat.{ℕ, _-_, _≤_}
-use mathlib.Core.List.{List}
-use mathlib.Core.Path.{_≡_}
+use mathlib.Core.{List.List, Path._≡_}
 use native.Mathlib.Omega.{arith}
-use lib.ListN.{length, take, drop, length-drop}
-use lib.Seq.{take-all}
+use lib.{ListN.{length, take, drop, length-drop}, Seq.take-all}
 use Rattle.map_output.specs.MapOutput.{numberLine}
 use borrow.Author.Needs.{needs}
 use Rattle.map_output.proofs.put_number.Statement.{statement}

@@ -1,12 +1,10 @@
 -- `numbers::read_big_endian` meets its contract. The loop's invariant: the number is what the bytes passed spell, modulo 2^64.
 -- Assumes nothing.
 use Prim.Native.Nat.{ℕ, _-_, _%_, _^_, _≤_}
-use mathlib.Core.Path.{_≡_}
-use mathlib.Core.List.{List}
+use mathlib.Core.{Path._≡_, List.List}
 use native.Mathlib.Omega.{arith}
 use borrow.Author.Needs.{needs}
-use lib.ListN.{length, take}
-use lib.Seq.{take-all}
+use lib.{ListN.{length, take}, Seq.take-all}
 use Rattle.numbers.specs.Numbers.{bigEndian, bigEndianFrom}
 use Rattle.numbers.proofs.NumbersLaws.{big-endian-take, big-endian-lt, read-as}
 use Rattle.numbers.proofs.read_big_endian.Statement.{statement}

@@ -1,12 +1,10 @@
 -- `numbers::read_little_endian` meets its contract. The loop's invariant: the number is what the bytes from `left` on spell, modulo 2^64.
 -- Assumes nothing.
 use Prim.Native.Nat.{ℕ, _+_, _-_, _%_, _^_, _≤_}
-use mathlib.Core.Path.{_≡_, ap}
-use mathlib.Core.List.{List}
+use mathlib.Core.{Path.{_≡_, ap}, List.List}
 use native.Mathlib.Omega.{arith}
 use borrow.Author.Needs.{needs}
-use lib.ListN.{length, drop}
-use lib.Seq.{drop-length}
+use lib.{ListN.{length, drop}, Seq.drop-length}
 use Rattle.numbers.specs.Numbers.{littleEndian}
 use Rattle.numbers.proofs.NumbersLaws.{little-endian-drop, little-endian-lt, read-as}
 use Rattle.numbers.proofs.read_little_endian.Statement.{statement}

@@ -2,12 +2,10 @@
 -- of the whole. Assumes nothing.
 use denote.Ref.{now}
 use Prim.Native.Nat.{_≤_}
-use mathlib.Core.Path.{_≡_, refl, sym, _∙_}
-use mathlib.Core.List.{_++_, append-nil}
+use mathlib.Core.{Path.{_≡_, refl, sym, _∙_}, List.{_++_, append-nil}}
 use native.Mathlib.Omega.{arith}
 use borrow.Author.Needs.{needs}
-use lib.ListN.{length, drop, length-set}
-use lib.Seq.{drop-length}
+use lib.{ListN.{length, drop, length-set}, Seq.drop-length}
 use Rattle.numbers.specs.Numbers.{bigEndianBytes}
 use Rattle.numbers.proofs.WrittenLaws.{written-back, written-front}
 use Rattle.numbers.proofs.write_big_endian.Statement.{statement}

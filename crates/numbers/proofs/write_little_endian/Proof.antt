@@ -1,11 +1,9 @@
 -- `numbers::write_little_endian` meets its contract. The loop's invariant: what is written, and then what is left to write, are the bytes of the whole.
 -- Assumes nothing.
-use mathlib.Core.Path.{refl}
+use mathlib.Core.{Path.{refl, _≡_, sym, _∙_}, List._++_}
 use native.Mathlib.Nat.{sub-zero}
 use denote.Ref.{now}
 use Prim.Native.Nat.{_≤_, _-_}
-use mathlib.Core.Path.{_≡_, sym, _∙_}
-use mathlib.Core.List.{_++_}
 use native.Mathlib.Omega.{arith}
 use borrow.Author.Needs.{needs}
 use lib.ListN.{length, take, length-set}

@@ -1,8 +1,7 @@
 -- `opening::codes_known` meets its contract. The loop's invariant: the largest code so far and what is left decide for all.
 -- Assumes nothing.
 use Prim.Native.Nat.{_≤_, _<_, _-_}
-use mathlib.Core.Path.{_≡_, sym, _∙_}
-use mathlib.Core.Bool.{_&&_}
+use mathlib.Core.{Path.{_≡_, sym, _∙_}, Bool._&&_}
 use native.Mathlib.Omega.{arith}
 use denote.Ref.{now}
 use lib.ListN.{length, drop}

@@ -1,7 +1,6 @@
 -- `opening::open` meets its contract: three tests in order, and then the search.
 -- Assumes nothing.
-use mathlib.Core.Path.{_≡_, sym, _∙_}
-use mathlib.Core.Bool.{true}
+use mathlib.Core.{Path.{_≡_, sym, _∙_}, Bool.true}
 use denote.Ref.{now}
 use borrow.Author.Tests.{not-true, not-false}
 use Rattle.opening.specs.Opening.{lengthsRule, codesRule, opened}

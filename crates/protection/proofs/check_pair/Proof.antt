@@ -1,10 +1,9 @@
 -- `protection::check_pair` meets its contract: both layouts sound, then the two nested.
 -- Assumes nothing.
-use mathlib.Core.Path.{_≡_, sym, _∙_}
-use mathlib.Core.Bool.{true}
+use mathlib.Core.{Path.{_≡_, sym, _∙_}, Bool.true}
 use borrow.Author.Needs.{needs}
 use borrow.Author.Tests.{not-true, not-false}
-use Rattle.layout.specs.Soundness.{sound}
+use Rattle.layout.specs.Rules.{sound}
 use Rattle.protection.specs.Protection.{pairAnswer}
 use Rattle.protection.proofs.check_pair.Statement.{statement}
 use Rattle.protection.proofs.check_pair.Tie as tie

@@ -1,14 +1,11 @@
 -- `sector_map::tweak_block` meets its contract: sixteen little-endian bytes of a number below 2^64 are eight, and zeros.
 -- Assumes nothing.
 use Prim.Native.Nat.{ℕ, _^_, _<_}
-use mathlib.Core.List.{List}
+use mathlib.Core.{List.List, Path.{ap, sym, _∙_}}
 use native.Mathlib.Omega.{arith}
-use Rattle.answers.specs.declared.Numbered.{Numbered}
-use Rattle.sector_map.specs.declared.Tweak.{Tweak}
-use Rattle.answers.specs.declared.Numbered.the-variants.{Number}
-use mathlib.Core.Path.{ap, sym, _∙_}
+use Rattle.answers.specs.declared.Numbered.{Numbered, the-variants.Number}
+use Rattle.sector_map.specs.{declared.Tweak.Tweak, SectorMap.{tweakOf, blockOf}}
 use Rattle.numbers.proofs.WrittenLaws.{little-endian-bytes-pad}
-use Rattle.sector_map.specs.SectorMap.{tweakOf, blockOf}
 use borrow.Author.Needs.{needs}
 use Rattle.sector_map.proofs.tweak_block.Statement.{statement}
 use Rattle.sector_map.proofs.tweak_block.Tie as tie
