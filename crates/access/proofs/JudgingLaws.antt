@@ -14,8 +14,7 @@ use Rattle.layout.proofs.RuleLaws.{and-true-left, sound-ends}
 use Rattle.layout.proofs.TestLaws.{leb-iff}
 use Rattle.protection.specs.{Protection.{protectionRule, soundProtection}, declared.Protection.Protection}
 use Rattle.sector_map.specs.SectorMap.{sectors}
-use Rattle.access.specs.Judging.{maxCount, checked, apartAnswer, lockAnswer, readAnswer, writeAnswer}
-use Rattle.access.specs.Moving.{extentStart}
+use Rattle.access.specs.{Judging.{maxCount, checked, apartAnswer, lockAnswer, readAnswer, writeAnswer}, Moving.extentStart}
 
 -- an extent's end by what is left of the volume
 pub inside-by-rest : (first count total : ℕ) → count ≤ total → leb first (total - count) ≡ leb (first + count) total

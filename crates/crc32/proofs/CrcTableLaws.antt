@@ -4,8 +4,7 @@ use mathlib.Core.{Path.{_≡_, sym, ap, ap₂, _∙_}, List.{List, _++_, map}}
 use Prim.Native.Nat.{ℕ, zero, suc, _+_, _*_, _/_, _%_, _^_, _<_}
 use native.Mathlib.Nat.{mod-lt, zero-add}
 use native.Mathlib.Omega.{arith}
-use lib.{Bits.bitXor, ListN.{length, length-map, getD, List·getD-map, List·getD-append}, Pow.pow-pos}
-use lib.Seq.{getD-append-add}
+use lib.{Bits.bitXor, ListN.{length, length-map, getD, List·getD-map, List·getD-append}, Pow.pow-pos, Seq.getD-append-add}
 use Rattle.bits.specs.Bits.{entries}
 use Rattle.bits.proofs.EntriesLaws.{length-entries, entries-at}
 use Rattle.crc32.specs.{Crc32.{bitStep, bitSteps}, Tables.{tablesFrom, crcTables}}

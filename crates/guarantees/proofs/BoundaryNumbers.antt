@@ -3,8 +3,7 @@
 use Prim.Native.Nat.{ℕ, suc, _<_}
 use native.Mathlib.Omega.{arith}
 use mathlib.Core.{Path.{_≡_, refl, sym, ap, _∙_}, Bool.{Bool, true, false, cond}, List.{List, [], _∷_, _++_}}
-use lib.{Dec.{ltb, eqb}, ListN.{length, getD, set, take, drop}}
-use lib.Seq.{getD-set-same, getD-set-other, set-split, drop-length}
+use lib.{Dec.{ltb, eqb}, ListN.{length, getD, set, take, drop}, Seq.{getD-set-same, getD-set-other, set-split, drop-length}}
 use borrow.Author.Tests.{ltb-true}
 use Rattle.access.specs.Judging.{closesLock, lockedAfter}
 use Rattle.answers.specs.{Answers.answerRefusal, declared.Answer.{Answer, the-variants.{Accepted, Refused}}}

@@ -4,8 +4,7 @@ use Prim.Native.Nat.{ℕ, suc, _+_, _<_}
 use native.Mathlib.Omega.{arith}
 use mathlib.Core.{Path.{_≡_, refl, ap, _∙_}, Logic._↔_, Bool.{Bool, true, false, _&&_, cond}, List.List}
 use lib.{Dec.{leb, ltb}, ListN.length}
-use Rattle.answers.specs.{Answers.{line, answerRefusal, numberedRefusal}, declared.Answer.Answer}
-use Rattle.answers.specs.declared.Numbered.the-variants.{Number}
+use Rattle.answers.specs.{Answers.{line, answerRefusal, numberedRefusal}, declared.{Answer.Answer, Numbered.the-variants.Number}}
 use Rattle.answers.proofs.AnswerLaws.{refused-accepted}
 use Rattle.layout.specs.{Opened.openedRefusal, Rules.{hostSizeRule, sound}, declared.{Layout.Layout, Opened.Opened}}
 use Rattle.layout.specs.declared.Opened.the-variants.{Accepted, Refused}

@@ -3,8 +3,7 @@
 use Prim.Native.Nat.{ℕ, _+_, _-_, _/_, _<_}
 use native.Mathlib.Omega.{arith}
 use mathlib.Core.{Path.{_≡_, refl, sym, ap, _∙_}, List.{List, [], _∷_, _++_, append-assoc}}
-use lib.ListN.{length, drop, length-append}
-use lib.Seq.{take-at, drop-at, take-all, drop-drop, take-append-seam, drop-append-seam}
+use lib.{ListN.{length, drop, length-append}, Seq.{take-at, drop-at, take-all, drop-drop, take-append-seam, drop-append-seam}}
 use borrow.Author.Tests.{eq-eqb, ne-eqb}
 use Rattle.numbers.specs.Numbers.{bigEndian}
 use Rattle.layout.specs.declared.{Layout.Layout, Opened.the-variants.Refused}
@@ -12,7 +11,7 @@ use Rattle.opening.specs.Opening.{opened}
 use Rattle.sector_map.specs.SectorMap.{sectors, firstSector, sectorCount, hostSector}
 use Rattle.answers.specs.declared.Numbered.the-variants.{Number}
 use Rattle.map_input.specs.MapInput.{openedInput}
-use Rattle.map_output.specs.Ascii.{ascii}
+use Rattle.map_output.specs.MapOutput.{ascii}
 use Rattle.map_output.specs.MapOutput.{textLine, numberLine, eitherLine, magicLine, kindLine, headerLines, areaLines, sectorLines, lastSector}
 use Rattle.map_output.specs.MapOutput.{layoutLines, refusalLine}
 use Rattle.guarantees.specs.SectorMap.{Sound}

@@ -11,8 +11,7 @@ use Rattle.extent.specs.{Extents.overlap, declared.{Extent.Extent, Overlap.Over
 use Rattle.extent.proofs.OverlapLaws.{In, Shared, none, least, overlap-shared}
 use Rattle.layout.specs.declared.Layout.{Layout}
 use Rattle.sector_map.specs.SectorMap.{sectors, firstSector}
-use Rattle.protection.specs.{Protection.protectedExtent, declared.Protection.Protection}
-use Rattle.protection.specs.declared.Protection.the-variants.{Unprotected, Protected}
+use Rattle.protection.specs.{Protection.protectedExtent, declared.Protection.{Protection, the-variants.{Unprotected, Protected}}}
 use Rattle.model.proofs.Lawful.{Every}
 use Rattle.guarantees.specs.{ReferenceModel.{inRange, anyInRange}, SectorMap.Sound}
 use Rattle.guarantees.specs.{Table.{writes, check, later, covers}, Views.{ProtectedRange, SoundRange}}

@@ -3,8 +3,7 @@
 use Prim.Native.Nat.{ℕ, zero, suc, _≤_, _<_}
 use native.Mathlib.Nat.{le-of-suc-le-suc}
 use native.Mathlib.Omega.{arith}
-use mathlib.Core.{Path.{_≡_, refl, sym, subst}, Logic._↔_, Bool.{Bool, true, false, _&&_, not, true≢false}}
-use mathlib.Core.List.{List, [], _∷_}
+use mathlib.Core.{Path.{_≡_, refl, sym, subst}, Logic._↔_, Bool.{Bool, true, false, _&&_, not, true≢false}, List.{List, [], _∷_}}
 use lib.{Dec.{leb, eqb}, ListN.{length, getD}}
 use borrow.Author.Tests.{leb-true, leb-false, eqb-true, eqb-false}
 

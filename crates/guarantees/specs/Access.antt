@@ -10,8 +10,7 @@ use Rattle.access.specs.Moving.{filledBy, writtenBy}
 use Rattle.view.specs.Outcomes.{ReadPost, WritePost}
 use Rattle.view.specs.declared.{Outcome.Outcome, View.View}
 use Rattle.model.specs.Model.{Rules, bufferAfter, imageAfter}
-use Rattle.guarantees.specs.{ReferenceModel.{lockLeft, viewRules}, Table.{Operation, reads, writes, Call}}
-use Rattle.guarantees.specs.Views.{SoundView}
+use Rattle.guarantees.specs.{ReferenceModel.{lockLeft, viewRules}, Table.{Operation, reads, writes, Call}, Views.SoundView}
 
 module _ (view : View) (image : List ℕ) (first count : ℕ) (buffer : List ℕ) where
   -- the call, and the rules of its view

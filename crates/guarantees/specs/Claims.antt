@@ -5,11 +5,9 @@ use Rattle.extent.specs.declared.Extent.{Extent}
 use Rattle.layout.specs.declared.Layout.{Layout}
 use Rattle.protection.specs.declared.Protection.{Protection}
 use Rattle.view.specs.declared.View.{View}
-use Rattle.guarantees.specs.Access.{AccessesByTable}
-use Rattle.guarantees.specs.Boundary.{TellsNumbers, ReturnsZero, OrdersNumbers, StoresAnswers}
+use Rattle.guarantees.specs.{Access.AccessesByTable, Boundary.{TellsNumbers, ReturnsZero, OrdersNumbers, StoresAnswers}}
 use Rattle.guarantees.specs.{BoundaryRuns.{Numbers, CarriesRuns, BeginsRuns}, Extents.SharesLeast}
-use Rattle.guarantees.specs.{FromHeaders.FromHeaders, Interleaving.Demand3}
-use Rattle.guarantees.specs.Judging.{KeepsRules, JudgesExactly, GivesKeys}
+use Rattle.guarantees.specs.{FromHeaders.FromHeaders, Interleaving.Demand3, Judging.{KeepsRules, JudgesExactly, GivesKeys}}
 use Rattle.guarantees.specs.{MapProgram.{ReadsInput, PrintsLines}, Numbers.{SpellsNumbers, ChecksBytes}}
 use Rattle.guarantees.specs.{Opening.{OpensExactlyWhen, LocatesHeaders}, Parts.KeepsParts}
 use Rattle.guarantees.specs.{SectorMap.{MapsExactly, OpenedIsSound}, Views.MakesViews}

@@ -8,8 +8,7 @@ use Rattle.layout.specs.declared.Layout.{Layout}
 use Rattle.view.specs.Outcomes.{ReadPost, WritePost}
 use Rattle.protection.specs.declared.Protection.{Protection, the-variants.Unprotected}
 use Rattle.view.specs.declared.View.{View}
-use Rattle.model.specs.{Model.{Rules, State, stateWith, Reply, replies, final, contents}, Runs.Run}
-use Rattle.model.specs.Sectors.{sectorAt, gather}
+use Rattle.model.specs.{Model.{Rules, State, stateWith, Reply, replies, final, contents}, Runs.Run, Sectors.{sectorAt, gather}}
 use Rattle.model.specs.Sides.{Side, outer, hidden, Turn, Interleaves, Both, at, eachWith, OnSide, sided, bySide, unprotected}
 use Rattle.guarantees.specs.{ReferenceModel.{inRange, hostsOf, viewRules}, SectorMap.Sound}
 use Rattle.guarantees.specs.{Table.{Operation, reads, writes, Call}, Views.{area, plain, protecting, Nested}}

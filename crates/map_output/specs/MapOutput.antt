@@ -1,11 +1,17 @@
 -- The map program's output (RULES.md, Map program), in ASCII: what the contracts of `map_output` cite. Assumes nothing.
-use Prim.Native.Nat.{ℕ, _+_, _-_, _≤_}
+use Prim.Native.{Nat.{ℕ, _+_, _-_, _≤_}, Char.code}
+use Prim.Native.String as text
 use mathlib.Core.{Path._≡_, Bool.{Bool, cond}, List.{List, [], _∷_, _++_}}
 use lib.{Dec.eqb, ListN.{length, take, drop}}
 use Rattle.layout.specs.{Rules.hidden, declared.Layout.Layout}
 use Rattle.header.specs.Header.{vera, veraMagic, trueMagic}
 use Rattle.sector_map.specs.SectorMap.{sectors, firstSector}
-use Rattle.map_output.specs.{Ascii.ascii, Decimal.decimal}
+use Rattle.map_output.specs.Decimal.{decimal}
+
+-- the bytes of a text in ASCII
+abbrev pub ascii : text.String → List ℕ
+ascii text.[] = []
+ascii (text._∷_ c s) = code c ∷ ascii s
 
 -- a line: a label, a space, a value and a line feed
 unfoldable pub textLine : List ℕ → List ℕ → List ℕ

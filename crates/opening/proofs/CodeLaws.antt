@@ -4,8 +4,7 @@ use Prim.Native.Nat.{ℕ, zero, suc, _+_, _≤_, _<_}
 use native.Mathlib.Nat.{not-suc-le-zero, le-of-suc-le-suc}
 use native.Mathlib.Numerals.{add-one}
 use native.Mathlib.Omega.{arith}
-use mathlib.Core.{Path.{_≡_, refl, sym, ap, _∙_}, Bool.{Bool, true, false, _&&_, and-assoc, and-true}}
-use mathlib.Core.List.{List, [], _∷_}
+use mathlib.Core.{Path.{_≡_, refl, sym, ap, _∙_}, Bool.{Bool, true, false, _&&_, and-assoc, and-true}, List.{List, [], _∷_}}
 use lib.{Dec.leb, ListN.{length, getD, drop, drop-of-length-le}, Seq.drop-cons}
 use borrow.Author.Tests.{leb-true, le-leb}
 use Rattle.layout.proofs.RuleLaws.{and-true-left, and-true-right}

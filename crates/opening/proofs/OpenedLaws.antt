@@ -6,8 +6,7 @@ use mathlib.Core.{Path.{_≡_, refl}, Bool.{Bool, true, false, _&&_}, List.{List
 use lib.{Dec.{leb, eqb}, ListN.length}
 use borrow.Author.Tests.{leb-true, eqb-true}
 use Rattle.answers.specs.Answers.{line}
-use Rattle.layout.specs.{Rules.hostSizeRule, declared.{Layout.Layout, Opened.Opened}}
-use Rattle.layout.specs.declared.Opened.the-variants.{Accepted, Refused}
+use Rattle.layout.specs.{Rules.hostSizeRule, declared.{Layout.Layout, Opened.{Opened, the-variants.{Accepted, Refused}}}}
 use Rattle.layout.proofs.RuleLaws.{and-true-left, and-true-right}
 use Rattle.locations.specs.Locations.{locationOf}
 use Rattle.header.specs.Header.{headerBytes, judge}

@@ -10,8 +10,7 @@ use Rattle.answers.proofs.AnswerLaws.{line-accepted}
 use Rattle.layout.specs.{Rules.{sectorBytes, standard, sound}, declared.Layout.Layout}
 use Rattle.layout.proofs.RuleLaws.{and-true-right}
 use Rattle.layout.proofs.TestLaws.{leb-iff}
-use Rattle.protection.specs.Protection.{areaEnd, protectionRule, pairAnswer}
-use Rattle.protection.specs.declared.Protection.the-variants.{Protected}
+use Rattle.protection.specs.{Protection.{areaEnd, protectionRule, pairAnswer}, declared.Protection.the-variants.Protected}
 
 pub leb-sub : (end start size : ℕ) → start ≤ end → leb (end - start) size ≡ leb end (start + size)
 leb-sub end start size h = leb-iff (end - start) size end (start + size) (λ k. omega arith) (λ k. omega arith)
