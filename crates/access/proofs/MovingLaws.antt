@@ -10,7 +10,8 @@ use borrow.Rule.Slice.PartMut.{putMid}
 use Rattle.answers.specs.{Answers.isAccepted, declared.Answer.{Answer, the-variants.{Accepted, Refused}}}
 use Rattle.copy.specs.Copy.{maxSize, copied}
 use Rattle.layout.specs.{Rules.sectorBytes, declared.Layout.Layout}
-use Rattle.access.specs.Moving.{extentStart, overlay, filledBy, writtenBy}
+use Rattle.judgement.specs.Offsets.{extentStart}
+use Rattle.access.specs.Moving.{overlay, filledBy, writtenBy}
 
 -- a part of an image that starts at an offset
 part-length : (image : List ℕ) (size offset : ℕ) → offset + size ≤ length image → length (take size (drop offset image)) ≡ size
@@ -54,18 +55,19 @@ copy-in image buffer offset small fits =
     ∙ simp (drop-of-length-le rest none, append-nil, drop-drop, append-assoc)
 
 module _ (answer : Answer) (layout : Layout) (image : List ℕ) (first : ℕ) (buffer : List ℕ) where
-  pub filled-accepted : (count : ℕ) → answer ≡ Accepted → length buffer ≡ count * sectorBytes
-      → take (length buffer) (drop (extentStart layout first) image) ≡ filledBy answer layout image first count buffer
+  pub filled-accepted : (count start : ℕ) → answer ≡ Accepted → start ≡ extentStart layout first → length buffer ≡ count * sectorBytes
+      → take (length buffer) (drop start image) ≡ filledBy answer layout image first count buffer
   unfolding filledBy isAccepted
-  filled-accepted count e whole = rw (e, whole)
+  filled-accepted count start e at whole = rw (e, at, whole)
 
   pub filled-refused : (count number : ℕ) → answer ≡ Refused number → buffer ≡ filledBy answer layout image first count buffer
   unfolding filledBy isAccepted
   filled-refused count number e = rw e
 
-  pub written-accepted : answer ≡ Accepted → overlay (extentStart layout first) buffer image ≡ writtenBy answer layout image first buffer
+  pub written-accepted : (start : ℕ) → answer ≡ Accepted → start ≡ extentStart layout first
+      → overlay start buffer image ≡ writtenBy answer layout image first buffer
   unfolding writtenBy isAccepted
-  written-accepted e = rw e
+  written-accepted start e at = rw (e, at)
 
   pub written-refused : (number : ℕ) → answer ≡ Refused number → image ≡ writtenBy answer layout image first buffer
   unfolding writtenBy isAccepted

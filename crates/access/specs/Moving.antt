@@ -1,14 +1,11 @@
--- What reads and writes move (RULES.md, Reads and writes): an extent's first byte in the host, and the buffer and the image after a call
--- by its answer. What the contracts of `access` cite. Assumes nothing.
+-- What reads and writes move (RULES.md, Reads and writes): the buffer and the image after a call by its answer. What the contracts of
+-- `access` cite. Assumes nothing.
 use Prim.Native.Nat.{ℕ, _+_, _*_}
 use mathlib.Core.{Bool.cond, List.{List, _++_}}
 use lib.ListN.{length, take, drop}
 use Rattle.answers.specs.{Answers.isAccepted, declared.Answer.Answer}
 use Rattle.layout.specs.{Rules.sectorBytes, declared.Layout.Layout}
-
--- the first byte of an extent in the host: O and 512 for each user sector before it
-unfoldable pub extentStart : Layout → ℕ → ℕ
-extentStart layout first = layout .«data_start» + first * sectorBytes
+use Rattle.judgement.specs.Offsets.{extentStart}
 
 -- bytes laid over an image from an offset on
 unfoldable pub overlay : ℕ → List ℕ → List ℕ → List ℕ

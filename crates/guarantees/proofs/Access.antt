@@ -3,8 +3,9 @@ use Prim.Native.Nat.{ℕ, _+_, _*_}
 use mathlib.Core.{Path.{_≡_, refl, sym, ap, _∙_}, Bool.cond, List.List}
 use lib.{Dec.{leb, eqb}, ListN.length}
 use borrow.Author.Tests.{leb-true}
-use Rattle.access.specs.{Judging.{checked, readAnswer, writeAnswer}, Moving.{filledBy, writtenBy}}
-use Rattle.access.proofs.JudgingLaws.{Passed, read-passed, write-passed}
+use Rattle.judgement.specs.Judging.{checked, readAnswer, writeAnswer}
+use Rattle.access.specs.Moving.{filledBy, writtenBy}
+use Rattle.judgement.proofs.JudgingLaws.{Passed, read-passed, write-passed}
 use Rattle.answers.specs.{Answers.isAccepted, declared.Answer.{Answer, the-variants.{Accepted, Refused}}}
 use Rattle.sector_map.specs.SectorMap.{sectors}
 use Rattle.view.specs.{Outcomes.{viewRead, viewWrite, after}, declared.View.View}

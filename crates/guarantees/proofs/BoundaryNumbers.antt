@@ -5,7 +5,7 @@ use native.Mathlib.Omega.{arith}
 use mathlib.Core.{Path.{_≡_, refl, sym, ap, _∙_}, Bool.{Bool, true, false, cond}, List.{List, [], _∷_, _++_}}
 use lib.{Dec.{ltb, eqb}, ListN.{length, getD, set, take, drop}, Seq.{getD-set-same, getD-set-other, set-split, drop-length}}
 use borrow.Author.Tests.{ltb-true}
-use Rattle.access.specs.Judging.{closesLock, lockedAfter}
+use Rattle.judgement.specs.Judging.{lockedAfter}
 use Rattle.answers.specs.{Answers.answerRefusal, declared.Answer.{Answer, the-variants.{Accepted, Refused}}}
 use Rattle.layout.specs.declared.Layout.{Layout}
 use Rattle.protection.specs.declared.Protection.{Protection, the-variants.{Unprotected, Protected}}
@@ -44,16 +44,11 @@ module _ (numbers : List ℕ) (h : 11 < length numbers) where
   view-of-cond-set true = view-of-set
   view-of-cond-set false = refl
 
-closes-18 : (answer : Answer) → eqb (answerRefusal answer) 18 ≡ closesLock answer
-unfolding answerRefusal closesLock
-closes-18 Accepted = refl
-closes-18 (Refused number) = refl
-
 -- the numbers that a write leaves tell the view that it hands back
 pub view-of-left : (answer : Answer) (numbers : List ℕ) → length numbers ≡ 12
     → viewFrom (viewLeft (answerRefusal answer) numbers) ≡ after (viewFrom numbers) answer
 unfolding viewLeft after lockedAfter
-view-of-left answer numbers h = rw (closes-18 answer) (view-of-cond-set numbers (omega arith) (closesLock answer))
+view-of-left answer numbers h = view-of-cond-set numbers (omega arith) (eqb (answerRefusal answer) 18)
 
 -- a list with another last number
 pub set-last : (l : List ℕ) (n v : ℕ) → length l ≡ suc n → set l n v ≡ take n l ++ (v ∷ [])

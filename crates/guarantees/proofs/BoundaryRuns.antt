@@ -4,7 +4,7 @@ use native.Mathlib.Omega.{arith}
 use mathlib.Core.{Path.{_≡_, refl, ap, _∙_}, Bool.{Bool, true, false, cond}, List.{List, [], _∷_, _++_}}
 use lib.{Dec.eqb, ListN.{length, set, length-set}}
 use borrow.Author.Tests.{ne-eqb}
-use Rattle.access.proofs.JudgingLaws.{read-holds, write-holds}
+use Rattle.judgement.proofs.JudgingLaws.{read-holds, write-holds}
 use Rattle.answers.specs.{Answers.answerRefusal, declared.Answer.{Answer, the-variants.{Accepted, Refused}}}
 use Rattle.layout.specs.declared.Layout.{Layout}
 use Rattle.view.specs.{Outcomes.{viewRead, viewWrite}, declared.{View.View, Viewed.the-variants.Made}}

@@ -11,7 +11,7 @@ use Rattle.layout.specs.declared.Opened.the-variants.{Accepted, Refused}
 use Rattle.locations.specs.Locations.{codeRule, located}
 use Rattle.opening.specs.Opening.{searched, opened}
 use Rattle.sector_map.specs.SectorMap.{sectors, firstSector, hostSector, userSector}
-use Rattle.access.proofs.JudgingLaws.{read-holds, write-holds}
+use Rattle.judgement.proofs.JudgingLaws.{read-holds, write-holds}
 use Rattle.protection.specs.Protection.{nests, pairAnswer}
 use Rattle.view.specs.{Outcomes.{viewRead, viewWrite}, Views.{madeBy, plainView, protectedView, viewedRefusal}}
 use Rattle.view.specs.declared.{View.View, Viewed.the-variants.Made}

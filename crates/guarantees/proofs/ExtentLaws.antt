@@ -8,7 +8,8 @@ use lib.ListN.{length, take, drop, length-append, length-take, length-drop, take
 use lib.Seq.{take-at, drop-append-add, drop-drop, take-add}
 use Rattle.layout.specs.declared.Layout.{Layout}
 use Rattle.sector_map.specs.SectorMap.{sectors, firstSector}
-use Rattle.access.specs.Moving.{extentStart, overlay}
+use Rattle.judgement.specs.Offsets.{extentStart}
+use Rattle.access.specs.Moving.{overlay}
 use Rattle.model.specs.Sectors.{sectorAt, setSector, lay, gather}
 use Rattle.guarantees.specs.{Table.covers, SectorMap.Sound}
 use Rattle.guarantees.proofs.CoversLaws.{consecutive, covers-consecutive}

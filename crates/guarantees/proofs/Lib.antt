@@ -23,6 +23,7 @@ pub mod NestLaws
 pub mod Numbers
 pub mod Opening
 pub mod Parts
+pub mod Placing
 pub mod RangeLaws
 pub mod Reflects
 pub mod RuleReflections

@@ -5,6 +5,7 @@ use mathlib.Core.{Path.{_≡_, refl, sym}, Logic._↔_, Bool.true}
 use lib.ListN.{length}
 use Rattle.answers.specs.{Answers.isAccepted, declared.Numbered.the-variants.Number}
 use Rattle.copy.specs.Copy.{copied}
+use Rattle.judgement.specs.Offsets.{extentStart, offsetBy}
 use Rattle.layout.specs.declared.Layout.{Layout}
 use Rattle.protection.specs.Protection.{soundProtection, protectedExtent, pairAnswer}
 use Rattle.protection.specs.declared.Protection.{Protection, the-variants.{Unprotected, Protected}}
@@ -45,7 +46,7 @@ area-reflects layout s host =
     (reflects-and (reflects-leb (layout .«data_start») (host * 512)) (reflects-leb (suc (host * 512)) (layout .«data_start» + layout .«data_size»)))
 
 pub keeps-parts : (layout hiddenLayout : Layout) (protection : Protection) → KeepsParts layout hiddenLayout protection
-unfolding soundProtection pairAnswer copied isAccepted
+unfolding soundProtection pairAnswer copied isAccepted extentStart offsetBy
 keeps-parts layout hiddenLayout protection =
     let first = sound-reflects layout in
     let second = sound-reflects hiddenLayout in
@@ -59,6 +60,8 @@ keeps-parts layout hiddenLayout protection =
       pairUnsound = λ f. simp (is-false (reflects-and first second) f);
       pairApart = λ s t f. simp (is-true first s, is-true second t, is-false (nests-reflects layout hiddenLayout) f);
       locks = λ locked answer. sym (lock-left answer locked);
+      starts = λ start. refl;
+      noStart = λ start number. refl;
       copies = λ from to few room. simp (is-true (reflects-leb (length from) 65536) few, is-true (reflects-leb (length from) (length to)) room);
       copiesNothing = λ from to f.
           simp (is-false (reflects-and (reflects-leb (length from) 65536) (reflects-leb (length from) (length to))) f);

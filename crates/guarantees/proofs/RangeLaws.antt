@@ -5,7 +5,7 @@ use native.Mathlib.Omega.{arith}
 use mathlib.Core.{Path.{_≡_, refl, ap}, Bool.{Bool, true, false, not, _||_, true≢false}, List.{List, [], _∷_}}
 use lib.Dec.{leb}
 use borrow.Author.Tests.{leb-true, leb-false}
-use Rattle.access.specs.Judging.{apartAnswer, lockAnswer}
+use Rattle.judgement.specs.Judging.{apartAnswer, lockAnswer}
 use Rattle.answers.specs.declared.Answer.{Answer, the-variants.Accepted}
 use Rattle.extent.specs.{Extents.overlap, declared.{Extent.Extent, Overlap.Overlap}}
 use Rattle.extent.proofs.OverlapLaws.{In, Shared, none, least, overlap-shared}

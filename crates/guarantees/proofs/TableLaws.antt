@@ -4,8 +4,8 @@ use Prim.Native.Nat.{ℕ, _+_, _*_, _/_, _≤_}
 use mathlib.Core.{Path.{_≡_, refl, sym, ap}, Bool.{Bool, true, false, cond, true≢false}, List.List}
 use lib.{Dec.{leb, eqb}, ListN.length}
 use borrow.Author.Tests.{leb-true, eqb-true}
-use Rattle.access.specs.Judging.{closesLock, lockedAfter}
-use Rattle.answers.specs.{Answers.isAccepted, declared.Answer.{Answer, the-variants.{Accepted, Refused}}}
+use Rattle.judgement.specs.Judging.{lockedAfter}
+use Rattle.answers.specs.{Answers.{isAccepted, answerRefusal}, declared.Answer.{Answer, the-variants.{Accepted, Refused}}}
 use Rattle.layout.specs.declared.Layout.{Layout}
 use Rattle.sector_map.specs.SectorMap.{sectors}
 use Rattle.model.proofs.Cases.{test-cases}
@@ -74,7 +74,7 @@ read-lock layout first count buffer locked touch imageSize =
     (leb (first + count) (layout .«data_size» / 512)) locked
 
 -- the table's lock is that of a view after a write
-pub lock-left : (answer : Answer) (locked : Bool) → lockLeft answer locked ≡ lockedAfter locked answer
-unfolding lockLeft lockedAfter closesLock
+pub lock-left : (answer : Answer) (locked : Bool) → lockLeft answer locked ≡ lockedAfter locked (answerRefusal answer)
+unfolding lockLeft lockedAfter answerRefusal
 lock-left Accepted locked = refl
 lock-left (Refused number) locked = refl

@@ -5,7 +5,7 @@ use Prim.Native.Nat.{ℕ}
 use mathlib.Core.{Path._≡_, Bool.Bool, List.List}
 use lib.ListN.{length}
 use Rattle.answers.specs.declared.Answer.{Answer, the-variants.Refused}
-use Rattle.access.specs.Judging.{readAnswer, writeAnswer}
+use Rattle.judgement.specs.Judging.{readAnswer, writeAnswer}
 use Rattle.access.specs.Moving.{filledBy, writtenBy}
 use Rattle.view.specs.Outcomes.{ReadPost, WritePost}
 use Rattle.view.specs.declared.{Outcome.Outcome, View.View}

@@ -9,7 +9,7 @@ use Rattle.guarantees.specs.{Access.AccessesByTable, Boundary.{TellsNumb
 use Rattle.guarantees.specs.{BoundaryRuns.{Numbers, CarriesRuns, BeginsRuns}, Extents.SharesLeast}
 use Rattle.guarantees.specs.{FromHeaders.FromHeaders, Interleaving.Demand3, Judging.{KeepsRules, JudgesExactly, GivesKeys}}
 use Rattle.guarantees.specs.{MapProgram.{ReadsInput, PrintsLines}, Numbers.{SpellsNumbers, ChecksBytes}}
-use Rattle.guarantees.specs.{Opening.{OpensExactlyWhen, LocatesHeaders}, Parts.KeepsParts}
+use Rattle.guarantees.specs.{Opening.{OpensExactlyWhen, LocatesHeaders}, Parts.KeepsParts, Placing.{PlacesExtents, PlacesNumbers}}
 use Rattle.guarantees.specs.{SectorMap.{MapsExactly, OpenedIsSound}, Views.MakesViews}
 
 pub record Claims : Type 0 where
@@ -29,6 +29,7 @@ pub record Claims : Type 0 where
   pub views : (outer hiddenLayout : Layout) → MakesViews outer hiddenLayout
   pub parts : (layout hiddenLayout : Layout) (protection : Protection) → KeepsParts layout hiddenLayout protection
   pub accesses : (view : View) (image : List ℕ) (first count : ℕ) (buffer : List ℕ) → AccessesByTable view image first count buffer
+  pub placed : (view : View) (image : List ℕ) (first count : ℕ) (buffer : List ℕ) → PlacesExtents view image first count buffer
   -- demand 3, and from two headers to it
   pub demand3 : (outerLayout hiddenLayout : Layout) → Demand3 outerLayout hiddenLayout
   pub fromHeaders : (outerHeader hiddenHeader : List ℕ) (outerCode hiddenCode hostSize : ℕ)
@@ -41,6 +42,7 @@ pub record Claims : Type 0 where
   pub stored : (before : List ℕ) → StoresAnswers before
   pub begun : (outerLayout hiddenLayout : Layout) → BeginsRuns outerLayout hiddenLayout
   pub carried : (numbers : Numbers) → CarriesRuns numbers
+  pub placedNumbers : (view image : List ℕ) (first count : ℕ) (buffer before : List ℕ) → PlacesNumbers view image first count buffer before
   -- the map program
   pub input : ReadsInput
   pub output : PrintsLines

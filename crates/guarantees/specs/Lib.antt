@@ -11,6 +11,7 @@ pub mod MapProgram
 pub mod Numbers
 pub mod Opening
 pub mod Parts
+pub mod Placing
 pub mod ReferenceModel
 pub mod SectorMap
 pub mod Table

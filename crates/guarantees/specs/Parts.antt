@@ -1,11 +1,14 @@
 -- What views, reads and writes are made of, each by itself: an acceptance, the soundness of what is protected, its user sectors, a pair of
--- layouts, the lock after a write, and the copy. The definitions are those that the contracts of `protection`, `access` and `copy` cite. Assumes nothing.
-use Prim.Native.Nat.{ℕ, _≤_}
+-- layouts, the lock after a write, an extent's first byte, and the copy. The definitions are those that the contracts of `protection`,
+-- `judgement` and `copy` cite. Assumes nothing.
+use Prim.Native.Nat.{ℕ, _+_, _*_, _≤_}
 use mathlib.Core.{Path._≡_, Logic._↔_, Bool.{Bool, true, false}, List.{List, _++_}}
 use lib.ListN.{length, drop}
-use Rattle.access.specs.Judging.{lockedAfter}
-use Rattle.answers.specs.Answers.{isAccepted}
+use Rattle.judgement.specs.Judging.{lockedAfter}
+use Rattle.judgement.specs.Offsets.{offsetBy}
+use Rattle.answers.specs.Answers.{isAccepted, answerRefusal}
 use Rattle.answers.specs.declared.{Answer.{Answer, the-variants.{Accepted, Refused}}, Numbered.the-variants.Number}
+use Rattle.answers.specs.declared.Numbered.the-variants as numbered
 use Rattle.copy.specs.Copy.{copied}
 use Rattle.layout.specs.declared.Layout.{Layout}
 use Rattle.protection.specs.Protection.{soundProtection, protectedExtent, pairAnswer}
@@ -31,7 +34,10 @@ pub record KeepsParts (layout hiddenLayout : Layout) (protection : Protection) :
   pub pairUnsound : (Sound layout × Sound hiddenLayout → ⊥) → pairAnswer layout hiddenLayout ≡ Refused 11
   pub pairApart : Sound layout → Sound hiddenLayout → (Nested layout hiddenLayout → ⊥) → pairAnswer layout hiddenLayout ≡ Refused 12
   -- 18 closes the lock
-  pub locks : (locked : Bool) (answer : Answer) → lockedAfter locked answer ≡ lockLeft answer locked
+  pub locks : (locked : Bool) (answer : Answer) → lockedAfter locked (answerRefusal answer) ≡ lockLeft answer locked
+  -- an extent's first byte: O and 512 for each user sector before it; a refusal gives none
+  pub starts : (first : ℕ) → offsetBy Accepted layout first ≡ Number (layout .«data_start» + first * 512)
+  pub noStart : (first number : ℕ) → offsetBy (Refused number) layout first ≡ numbered.Refused number
   -- a copy lays its bytes over the start; more than 64 KiB, or than there is room for, change nothing
   pub copies : (from to : List ℕ) → length from ≤ 65536 → length from ≤ length to → copied from to ≡ from ++ drop (length from) to
   pub copiesNothing : (from to : List ℕ) → (((length from ≤ 65536) × (length from ≤ length to)) → ⊥) → copied from to ≡ to

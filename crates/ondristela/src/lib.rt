@@ -13,7 +13,7 @@ ghost use Rattle.sector_map.specs.SectorMap.{hostSector, userSector, tweakOf};
 ghost use Rattle.view.specs.Views.{plainView, protectedView, viewedRefusal};
 ghost use Rattle.boundary_numbers.specs.BoundaryNumbers.{layoutFrom, numberedLeft, openedLeft, viewedLeft, blockLeft};
 ghost use Rattle.boundary_opening.specs.BoundaryOpening.{keysLeft};
-ghost use Rattle.boundary_access.specs.BoundaryAccess.{ReadCall, WriteCall};
+ghost use Rattle.boundary_access.specs.BoundaryAccess.{ReadCall, WriteCall, ReadExtentCall, WriteExtentCall};
 use boundary_numbers::LAYOUT_SIZE;
 use boundary_numbers::VIEW_SIZE;
 
@@ -145,6 +145,36 @@ pub extern "C" fn ondristela_write(
     ensures { λ r. ⌜ WriteCall (now (view .entry)) (now (image .entry)) first count (now (buffer .entry)) r (now (image .exit)) (now (view .exit)) ⌝ }
 {
     boundary_access::write(view, image, first, count, buffer)
+}
+
+// Where in the host a read of such sizes finds its bytes: the extent's first byte.
+#[no_mangle]
+pub extern "C" fn ondristela_read_extent(
+    view: &[u64; VIEW_SIZE],
+    image_size: u64,
+    first: u64,
+    count: u64,
+    buffer_size: u64,
+    offset: &mut [u64; 1],
+) -> u64
+    ensures { λ r. ⌜ ReadExtentCall (now (view .entry)) «image_size» first count «buffer_size» (now (offset .entry)) r (now (offset .exit)) ⌝ }
+{
+    boundary_access::read_extent(view, image_size, first, count, buffer_size, offset)
+}
+
+// Where in the host a write of such sizes finds its bytes. 18 closes the view's lock, as a write's does.
+#[no_mangle]
+pub extern "C" fn ondristela_write_extent(
+    view: &mut [u64; VIEW_SIZE],
+    image_size: u64,
+    first: u64,
+    count: u64,
+    buffer_size: u64,
+    offset: &mut [u64; 1],
+) -> u64
+    ensures { λ r. ⌜ WriteExtentCall (now (view .entry)) «image_size» first count «buffer_size» (now (offset .entry)) r (now (offset .exit)) (now (view .exit)) ⌝ }
+{
+    boundary_access::write_extent(view, image_size, first, count, buffer_size, offset)
 }
 
 // CRC-32 of ITU-T V.42.

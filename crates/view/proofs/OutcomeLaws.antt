@@ -3,8 +3,9 @@
 use Prim.Native.Nat.{ℕ}
 use mathlib.Core.{Path.{_≡_, refl, ap, _∙_}, Bool.Bool, List.List}
 use lib.ListN.{length}
-use Rattle.answers.specs.declared.Answer.{Answer}
-use Rattle.access.specs.{Judging.lockedAfter, Moving.{filledBy, writtenBy}}
+use Rattle.answers.specs.{Answers.answerRefusal, declared.Answer.Answer}
+use Rattle.judgement.specs.Judging.{lockedAfter}
+use Rattle.access.specs.Moving.{filledBy, writtenBy}
 use Rattle.view.specs.{Outcomes.{viewRead, viewWrite, after, ReadPost, WritePost}, declared.View.View}
 
 module _ (view : View) (image : List ℕ) (first count : ℕ) (buffer : List ℕ) (answer : Answer) where
@@ -15,7 +16,7 @@ module _ (view : View) (image : List ℕ) (first count : ℕ) (buffer : List ℕ
       record { same = refl; answers = judged; fills = fills ∙ ap (λ (a : Answer). filledBy a (view .layout) image first count buffer) judged }
 
   pub write-post : (locked : Bool) (written : List ℕ) → answer ≡ viewWrite view (length image) first count (length buffer)
-      → written ≡ writtenBy answer (view .layout) image first buffer → locked ≡ lockedAfter (view .locked) answer
+      → written ≡ writtenBy answer (view .layout) image first buffer → locked ≡ lockedAfter (view .locked) (answerRefusal answer)
       → WritePost view image first count buffer
       (record { view = record { layout = view .layout; protection = view .protection; locked = locked }; answer = answer }) written
   unfolding after

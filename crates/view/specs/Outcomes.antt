@@ -1,11 +1,12 @@
--- What reads and writes on a view hand back and leave: the judgement and the moving of `access`, and the view. What the contracts of
--- `View::read` and `View::write` cite. Assumes nothing.
+-- What reads and writes on a view hand back and leave: the judgement and the moving of `access`, and the view; and where they find their
+-- bytes. What the contracts of `View::read`, `write`, `read_extent` and `write_extent` cite. Assumes nothing.
 use Prim.Native.Nat.{ℕ}
 use mathlib.Core.{Path._≡_, List.List}
 use lib.ListN.{length}
-use Rattle.answers.specs.declared.Answer.{Answer}
-use Rattle.access.specs.{Judging.{readAnswer, writeAnswer, lockedAfter}, Moving.{filledBy, writtenBy}}
-use Rattle.view.specs.declared.{Outcome.Outcome, View.View}
+use Rattle.answers.specs.{Answers.answerRefusal, declared.Answer.Answer}
+use Rattle.judgement.specs.{Judging.{readAnswer, writeAnswer, lockedAfter}, Offsets.offsetBy}
+use Rattle.access.specs.Moving.{filledBy, writtenBy}
+use Rattle.view.specs.declared.{Outcome.Outcome, Placed.Placed, View.View}
 
 -- what a read of a view answers, for an image and a buffer of these lengths
 abbrev pub viewRead : View → ℕ → ℕ → ℕ → ℕ → Answer
@@ -17,7 +18,18 @@ viewWrite view = writeAnswer (view .layout) (view .protection) (view .locked)
 
 -- a view after a write: 18 closes its lock, and nothing else changes it
 unfoldable pub after : View → Answer → View
-after view answer = record { layout = view .layout; protection = view .protection; locked = lockedAfter (view .locked) answer }
+after view answer = record { layout = view .layout; protection = view .protection; locked = lockedAfter (view .locked) (answerRefusal answer) }
+
+-- where a read finds its bytes, or the read's refusal, and the same view
+unfoldable pub readPlaced : View → ℕ → ℕ → ℕ → ℕ → Placed
+readPlaced view imageSize first count bufferSize =
+    record { view = view; offset = offsetBy (viewRead view imageSize first count bufferSize) (view .layout) first }
+
+-- where a write does, and the view as the write leaves it
+unfoldable pub writePlaced : View → ℕ → ℕ → ℕ → ℕ → Placed
+writePlaced view imageSize first count bufferSize =
+    let answer = viewWrite view imageSize first count bufferSize in
+    record { view = after view answer; offset = offsetBy answer (view .layout) first }
 
 module _ (view : View) (image : List ℕ) (first count : ℕ) (buffer : List ℕ) where
   -- the buffer after a read

@@ -1,9 +1,10 @@
-// Views of a volume, plain and protected: how one is made, and reads and writes on it. Data is already
-// enciphered. Assumes nothing; no function has a `requires`.
+// Views of a volume, plain and protected: how one is made, reads and writes on it, and where these find their
+// bytes. Data is already enciphered. Assumes nothing; no function has a `requires`.
 ghost use mathlib.Core.Path.{_≡_};
-ghost use Rattle.view.specs.Outcomes.{ReadPost, WritePost};
+ghost use Rattle.view.specs.Outcomes.{readPlaced, writePlaced, ReadPost, WritePost};
 ghost use Rattle.view.specs.Views.{plainView, protectedView, viewedRefusal};
 use answers::Answer;
+use answers::Numbered;
 use layout::Layout;
 use protection::Protection;
 
@@ -25,6 +26,12 @@ pub enum Viewed {
 pub struct Outcome {
     pub view: View,
     pub answer: Answer,
+}
+
+// The view handed back, and where a call finds its bytes, or its refusal.
+pub struct Placed {
+    pub view: View,
+    pub offset: Numbered,
 }
 
 // The refusal number of a view's making, 0 where it is a view.
@@ -91,7 +98,7 @@ impl View {
         let layout = self.layout;
         let protection = self.protection;
         let answer = access::write(layout, protection, self.locked, image, first, count, buffer);
-        let locked = access::locked_after(self.locked, answer);
+        let locked = judgement::locked_after(self.locked, answers::refusal(answer));
         Outcome {
             view: View {
                 layout,
@@ -99,6 +106,49 @@ impl View {
                 locked,
             },
             answer,
+        }
+    }
+    // Where in the host a read of such sizes finds its bytes: the extent's first byte, or the read's
+    // refusal.
+    pub fn read_extent(self, image_size: u64, first: u64, count: u64, buffer_size: u64) -> Placed
+        ensures { λ r. ⌜ r ≡ readPlaced self «image_size» first count «buffer_size» ⌝ }
+    {
+        let layout = self.layout;
+        let protection = self.protection;
+        let offset = judgement::read_extent(
+            layout,
+            protection,
+            image_size,
+            first,
+            count,
+            buffer_size,
+        );
+        Placed { view: self, offset }
+    }
+
+    // Where in the host a write of such sizes finds its bytes, or the write's refusal. 18 closes the lock.
+    pub fn write_extent(self, image_size: u64, first: u64, count: u64, buffer_size: u64) -> Placed
+        ensures { λ r. ⌜ r ≡ writePlaced self «image_size» first count «buffer_size» ⌝ }
+    {
+        let layout = self.layout;
+        let protection = self.protection;
+        let offset = judgement::write_extent(
+            layout,
+            protection,
+            self.locked,
+            image_size,
+            first,
+            count,
+            buffer_size,
+        );
+        let locked = judgement::locked_after(self.locked, answers::numbered_refusal(offset));
+        Placed {
+            view: View {
+                layout,
+                protection,
+                locked,
+            },
+            offset,
         }
     }
 }

@@ -10,7 +10,7 @@ use Rattle.header.specs.Header.{versionRule, reservedRule, flagsRule, sectorSiz
 use Rattle.locations.specs.Locations.{locations, locationOf, codeRule}
 use Rattle.opening.specs.Opening.{lengthsRule, codesRule, candidateAt, judgements, further, searched, opened}
 use Rattle.sector_map.specs.SectorMap.{sectors, firstSector, hostSector, userSector, tweakNumber, blockOf, tweakOf}
-use Rattle.access.specs.Judging.{checked, apartAnswer, lockAnswer, readAnswer, writeAnswer, closesLock, lockedAfter}
+use Rattle.judgement.specs.Judging.{checked, apartAnswer, lockAnswer, readAnswer, writeAnswer, lockedAfter}
 use Rattle.answers.specs.Answers.{answerRefusal}
 use Rattle.extent.specs.Extents.{has, larger, overlap}
 use Rattle.protection.specs.Protection.{areaEnd, protectionRule, soundProtection, protectedExtent, nests, pairAnswer}
@@ -29,7 +29,7 @@ unfolding cases opens toldOf headerWith fieldBytes bigEndianBytes volume volumeM
     crc32 crcFrom bitStep bitSteps bigEndian bigEndianFrom littleEndian
     hostSector userSector tweakNumber tweakOf blockOf sectors firstSector sound littleEndianBytes
     onView writing reading leaving plainView protectedView plainOf protectedOf nests areaEnd protectionRule soundProtection
-    protectedExtent pairAnswer madeBy checked apartAnswer lockAnswer readAnswer writeAnswer closesLock lockedAfter after answerRefusal has larger overlap
+    protectedExtent pairAnswer madeBy checked apartAnswer lockAnswer readAnswer writeAnswer lockedAfter after answerRefusal has larger overlap
 table = refl
 
 output : layoutLines volumeM

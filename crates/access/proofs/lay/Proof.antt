@@ -12,9 +12,6 @@ use Rattle.access.proofs.MovingLaws.{copy-in}
 use Rattle.access.proofs.lay.Statement.{statement}
 use Rattle.access.proofs.lay.Tie as tie
 
-extent-start-requires : tie.Need-extent-start-requires
-extent-start-requires c κs = search needs
-
 sub-copy : tie.Need-sub-copy
 sub-copy c = search needs
 
@@ -33,20 +30,17 @@ same-length c = search needs
 returns : tie.Need-returns
 returns c =
     let copy = c .before .before in
-    let extent = copy .before .before in
-    let start = extent .before .before .before in
+    let start = copy .before .before .before .before in
     let image : List ℕ = now (start .args .image) in
     let buffer : List ℕ = now (start .args .buffer) in
-    let offset = extent .extent-start .result in
-    let fits : offset + length buffer ≤ length image = omega (arith, extent .extent-start .ensures, start .pre) in
+    let offset = start .args .start in
     ap (λ (bytes : List ℕ). putMid offset (length image - offset) image bytes) (copy .copy .ensures)
-    ∙ copy-in image buffer offset (start .pre .1 .1 .0) fits ∙ ap (λ (n : ℕ). overlay n buffer image) (extent .extent-start .ensures)
+    ∙ copy-in image buffer offset (start .pre .0) (start .pre .1)
 
 pub lay-spec : {M : Type 1} → statement M
 lay-spec =
     tie.close
     (tie.spec
-    extent-start-requires
     sub-copy
     part-copy-start
     part-copy-end

@@ -1,26 +1,28 @@
--- `access::read` meets its contract: a refusal changes nothing, and an accepted read fills the whole buffer.
+-- `access::read` meets its contract: a refusal changes nothing, and an accepted read moves the extent's bytes.
 -- Assumes nothing.
 use borrow.Author.Needs.{needs}
-use mathlib.Core.Path.{_∙_}
-use Rattle.access.proofs.JudgingLaws.{read-passed, passed-moves}
+use native.Mathlib.Omega.{arith}
+use mathlib.Core.Path.{refl, sym, _∙_}
+use Rattle.judgement.proofs.{JudgingLaws.{read-passed, passed-moves}, OffsetLaws.{offset-given, offset-refused}}
 use Rattle.access.proofs.MovingLaws.{filled-accepted, filled-refused}
 use Rattle.access.proofs.read.Statement.{statement}
 use Rattle.access.proofs.read.Tie as tie
 
-judge-read-requires : tie.Need-judge-read-requires
-judge-read-requires c κs = search needs
+read-extent-requires : tie.Need-read-extent-requires
+read-extent-requires c κs = search needs
 
-enum-told : tie.Need-enum-told
-enum-told c = search needs
+enum-known-extent : tie.Need-enum-known-extent
+enum-known-extent c = search needs
 
 fill-requires : tie.Need-fill-requires
 fill-requires c κs =
-    let accepted = c .before in
-    let judged = accepted .before .before in
-    passed-moves _ _ _ _ _ _ (read-passed _ _ _ _ _ _ (judged .judge-read .ensures) (accepted .enum-told .given .1))
+    let found = c .before .before in
+    let given = offset-given _ _ (found .before .before .read-extent .ensures) (found .extent .given .1) in
+    let moves = passed-moves _ _ _ _ _ _ (read-passed _ _ _ _ _ _ refl (given .0)) in
+    (moves .0, omega (arith, given .1, moves .1))
 
-enum-told-2 : tie.Need-enum-told-2
-enum-told-2 c = search needs
+enum-known-extent-2 : tie.Need-enum-known-extent-2
+enum-known-extent-2 c = search needs
 
 same-length : tie.Need-same-length
 same-length c = search needs
@@ -28,23 +30,25 @@ same-length c = search needs
 returns : tie.Need-returns
 returns c =
     let fill = c .before .before in
-    let accepted = fill .before .before in
-    let judged = accepted .before .before in
-    let e = accepted .enum-told .given .1 in
-    let passed = read-passed _ _ _ _ _ _ (judged .judge-read .ensures) e in
-    (judged .judge-read .ensures, fill .fill .ensures ∙ filled-accepted _ _ _ _ _ _ e (passed .bufferWhole))
+    let found = fill .before .before .before in
+    let given = offset-given _ _ (found .before .before .read-extent .ensures) (found .extent .given .1) in
+    let passed = read-passed _ _ _ _ _ _ refl (given .0) in
+    (sym (given .0), fill .fill .ensures ∙ filled-accepted _ _ _ _ _ _ _ refl (given .1) (passed .bufferWhole))
 
 returns-2 : tie.Need-returns-2
-returns-2 c = (c .before .before .judge-read .ensures, filled-refused _ _ _ _ _ _ _ (c .enum-told2 .given .1))
+returns-2 c =
+    let found = c .before .before .before in
+    let same = sym (offset-refused _ _ (found .read-extent .ensures) (c .before .extent2 .given .1)) in
+    (same, filled-refused _ _ _ _ _ _ _ refl)
 
 pub read-spec : {M : Type 1} → statement M
 read-spec =
     tie.close
     (tie.spec
-    judge-read-requires
-    enum-told
+    read-extent-requires
+    enum-known-extent
     fill-requires
-    enum-told-2
+    enum-known-extent-2
     same-length
     returns
     returns-2)

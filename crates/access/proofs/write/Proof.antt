@@ -1,26 +1,28 @@
--- `access::write` meets its contract: a refusal changes no byte, and an accepted write only the extent's own.
+-- `access::write` meets its contract: a refusal changes nothing, and an accepted write moves the extent's bytes.
 -- Assumes nothing.
 use borrow.Author.Needs.{needs}
-use mathlib.Core.Path.{_∙_}
-use Rattle.access.proofs.JudgingLaws.{write-passed, passed-moves}
+use native.Mathlib.Omega.{arith}
+use mathlib.Core.Path.{refl, sym, _∙_}
+use Rattle.judgement.proofs.{JudgingLaws.{write-passed, passed-moves}, OffsetLaws.{offset-given, offset-refused}}
 use Rattle.access.proofs.MovingLaws.{written-accepted, written-refused}
 use Rattle.access.proofs.write.Statement.{statement}
 use Rattle.access.proofs.write.Tie as tie
 
-judge-write-requires : tie.Need-judge-write-requires
-judge-write-requires c κs = search needs
+write-extent-requires : tie.Need-write-extent-requires
+write-extent-requires c κs = search needs
 
-enum-told : tie.Need-enum-told
-enum-told c = search needs
+enum-known-extent : tie.Need-enum-known-extent
+enum-known-extent c = search needs
 
 lay-requires : tie.Need-lay-requires
 lay-requires c κs =
-    let accepted = c .before in
-    let judged = accepted .before .before in
-    passed-moves _ _ _ _ _ _ (write-passed _ _ _ _ _ _ _ (judged .judge-write .ensures) (accepted .enum-told .given .1))
+    let found = c .before .before in
+    let given = offset-given _ _ (found .before .before .write-extent .ensures) (found .extent .given .1) in
+    let moves = passed-moves _ _ _ _ _ _ (write-passed _ _ _ _ _ _ _ refl (given .0)) in
+    (moves .0, omega (arith, given .1, moves .1))
 
-enum-told-2 : tie.Need-enum-told-2
-enum-told-2 c = search needs
+enum-known-extent-2 : tie.Need-enum-known-extent-2
+enum-known-extent-2 c = search needs
 
 same-length : tie.Need-same-length
 same-length c = search needs
@@ -28,21 +30,24 @@ same-length c = search needs
 returns : tie.Need-returns
 returns c =
     let lay = c .before .before in
-    let accepted = lay .before .before in
-    let judged = accepted .before .before in
-    (judged .judge-write .ensures, lay .lay .ensures ∙ written-accepted _ _ _ _ _ (accepted .enum-told .given .1))
+    let found = lay .before .before .before in
+    let given = offset-given _ _ (found .before .before .write-extent .ensures) (found .extent .given .1) in
+    (sym (given .0), lay .lay .ensures ∙ written-accepted _ _ _ _ _ _ refl (given .1))
 
 returns-2 : tie.Need-returns-2
-returns-2 c = (c .before .before .judge-write .ensures, written-refused _ _ _ _ _ _ (c .enum-told2 .given .1))
+returns-2 c =
+    let found = c .before .before .before in
+    let same = sym (offset-refused _ _ (found .write-extent .ensures) (c .before .extent2 .given .1)) in
+    (same, written-refused _ _ _ _ _ _ refl)
 
 pub write-spec : {M : Type 1} → statement M
 write-spec =
     tie.close
     (tie.spec
-    judge-write-requires
-    enum-told
+    write-extent-requires
+    enum-known-extent
     lay-requires
-    enum-told-2
+    enum-known-extent-2
     same-length
     returns
     returns-2)

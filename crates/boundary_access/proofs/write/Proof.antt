@@ -15,6 +15,9 @@ write-requires c κs = search needs
 refusal-requires : tie.Need-refusal-requires
 refusal-requires c κs = search needs
 
+cast-lock-after : tie.Need-cast-lock-after
+cast-lock-after c = search needs
+
 lock-after-requires : tie.Need-lock-after-requires
 lock-after-requires c κs = search needs
 
@@ -36,6 +39,7 @@ write-spec =
     view-from-requires
     write-requires
     refusal-requires
+    cast-lock-after
     lock-after-requires
     same-length
     returns)

@@ -10,6 +10,7 @@ use Rattle.guarantees.proofs.MapProgram.{reads-input, prints-lines}
 use Rattle.guarantees.proofs.Numbers.{spells-numbers, checks-bytes}
 use Rattle.guarantees.proofs.Opening.{opens-exactly-when, locates-headers}
 use Rattle.guarantees.proofs.Parts.{keeps-parts}
+use Rattle.guarantees.proofs.Placing.{places-extents, places-numbers}
 use Rattle.guarantees.proofs.SectorMap.{maps-exactly, opened-sound}
 use Rattle.guarantees.proofs.Views.{makes-views}
 use Rattle.guarantees.proofs.demands.Statement.{statement}
@@ -31,6 +32,7 @@ returns c =
       views = makes-views;
       parts = keeps-parts;
       accesses = accesses-by-table;
+      placed = places-extents;
       demand3 = demand-3;
       fromHeaders = from-headers;
       told = tells-numbers;
@@ -39,6 +41,7 @@ returns c =
       stored = stores-answers;
       begun = begins-runs;
       carried = carries-runs;
+      placedNumbers = places-numbers;
       input = reads-input;
       output = prints-lines;
     }

@@ -1,7 +1,7 @@
 -- The order of checks (RULES.md, Reads and writes): what a read or a write answers, by lengths and numbers alone. What the contracts of
--- `access` cite. Assumes nothing.
+-- `judgement` and `access` cite. Assumes nothing.
 use Prim.Native.Nat.{ℕ, _+_, _*_}
-use mathlib.Core.Bool.{Bool, true, false, not, cond}
+use mathlib.Core.Bool.{Bool, true, not, cond}
 use lib.Dec.{leb, eqb}
 use Rattle.answers.specs.{Answers.line, declared.Answer.{Answer, the-variants.{Accepted, Refused}}}
 use Rattle.extent.specs.{Extents.overlap, declared.Overlap.{Overlap, the-variants.{Apart, From}}}
@@ -41,11 +41,6 @@ unfoldable pub writeAnswer : Layout → Protection → Bool → ℕ → ℕ → 
 writeAnswer layout protection locked imageSize first count bufferSize =
     checked layout protection imageSize first count bufferSize (lockAnswer layout protection locked first count)
 
--- an answer closes the lock: 18 does
-unfoldable pub closesLock : Answer → Bool
-closesLock Accepted = false
-closesLock (Refused number) = eqb number 18
-
--- a lock after a write
-unfoldable pub lockedAfter : Bool → Answer → Bool
-lockedAfter locked answer = cond (closesLock answer) true locked
+-- a lock after a write, by the number that the write is refused by: 18 closes it
+unfoldable pub lockedAfter : Bool → ℕ → Bool
+lockedAfter locked number = cond (eqb number 18) true locked

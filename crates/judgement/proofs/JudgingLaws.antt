@@ -1,24 +1,32 @@
--- What an acceptance says of a call, and how the later checks of a write join those of every call.
+-- What an acceptance says of a call, how the later checks of a write join those of every call, and the lock after one.
 -- Assumes nothing.
 use Prim.Native.Nat.{ℕ, suc, _+_, _-_, _*_, _≤_}
 use native.Mathlib.Omega.{arith}
-use mathlib.Core.{Path.{_≡_, sym, _∙_}, Bool.{Bool, true, false, not}}
+use mathlib.Core.{Path.{_≡_, sym, ap, _∙_}, Bool.{Bool, true, false, not, cond}}
 use lib.Dec.{leb, eqb}
-use borrow.Author.Tests.{leb-true, eqb-true, le-leb, eq-eqb}
+use borrow.Author.Tests.{leb-true, eqb-true, le-leb, eq-eqb, ne-eqb}
 use Rattle.answers.specs.{Answers.line, declared.Answer.{Answer, the-variants.{Accepted, Refused}}}
 use Rattle.answers.proofs.AnswerLaws.{refused-accepted, line-accepted, line-holds}
-use Rattle.copy.specs.Copy.{maxSize}
 use Rattle.extent.specs.declared.Overlap.{Overlap, the-variants.{Apart, From}}
 use Rattle.layout.specs.{Rules.{sectorBytes, sound}, declared.Layout.Layout}
 use Rattle.layout.proofs.RuleLaws.{and-true-left, sound-ends}
 use Rattle.layout.proofs.TestLaws.{leb-iff}
 use Rattle.protection.specs.{Protection.{protectionRule, soundProtection}, declared.Protection.Protection}
 use Rattle.sector_map.specs.SectorMap.{sectors}
-use Rattle.access.specs.{Judging.{maxCount, checked, apartAnswer, lockAnswer, readAnswer, writeAnswer}, Moving.extentStart}
+use Rattle.judgement.specs.{Judging.{maxCount, checked, apartAnswer, lockAnswer, readAnswer, writeAnswer, lockedAfter}, Offsets.extentStart}
 
 -- an extent's end by what is left of the volume
 pub inside-by-rest : (first count total : ℕ) → count ≤ total → leb first (total - count) ≡ leb (first + count) total
 inside-by-rest first count total h = leb-iff first (total - count) (first + count) total (λ k. omega arith) (λ k. omega arith)
+
+-- 18 closes the lock, and no other number does
+pub lock-closed : {number : ℕ} (locked : Bool) → number ≡ 18 → true ≡ lockedAfter locked number
+unfolding lockedAfter
+lock-closed {number = number} locked e = ap (λ (closes : Bool). cond closes true locked) (sym (eq-eqb number 18 e))
+
+pub lock-left-alone : {number : ℕ} (locked : Bool) → (number ≡ 18 → ⊥) → locked ≡ lockedAfter locked number
+unfolding lockedAfter
+lock-left-alone {number = number} locked f = ap (λ (closes : Bool). cond closes true locked) (sym (ne-eqb number 18 f))
 
 -- a refusal by five checks does not depend on the later ones
 refused-alike : (a b c d e : Bool) (number : ℕ) (later : Answer)
@@ -71,15 +79,17 @@ module _ (layout : Layout) (protection : Protection) (imageSize first count buff
   unfolding soundProtection
   passed-layout p = and-true-left (sound layout) (protectionRule layout protection) (p .soundness)
 
-  -- what the moving of bytes asks for: the extent lies in the image
-  pub passed-moves : Passed
-      → (sound layout ≡ true) × ((first ≤ sectors layout) × ((bufferSize ≤ maxSize) × (extentStart layout first + bufferSize ≤ imageSize)))
+  -- the extent starts in a sound layout
+  pub passed-starts : Passed → (sound layout ≡ true) × (first ≤ sectors layout)
+  passed-starts p = (passed-layout p, omega (arith, p .inside))
+
+  -- what the moving of bytes asks for: they are few, and lie in the image
+  pub passed-moves : Passed → (bufferSize ≤ maxCount * sectorBytes) × (extentStart layout first + bufferSize ≤ imageSize)
   unfolding extentStart sectors
-  passed-moves p =
-      let kept = passed-layout p in
-      let fits : extentStart layout first + bufferSize ≤ imageSize =
-      omega (arith, sound-ends layout kept, p .imageWhole, p .bufferWhole, p .inside) in
-      (kept, (omega (arith, p .inside), (omega (arith, p .few, p .bufferWhole), fits)))
+  passed-moves p = (
+    omega (arith, p .few, p .bufferWhole),
+    omega (arith, sound-ends layout (passed-layout p), p .imageWhole, p .bufferWhole, p .inside),
+  )
 
   -- past the checks of every call, the later ones decide
   pub checked-passed : Passed → (later : Answer) → later ≡ checked layout protection imageSize first count bufferSize later

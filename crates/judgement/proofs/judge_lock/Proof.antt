@@ -1,10 +1,10 @@
--- `access::judge_lock` meets its contract: the lock, then what the extent shares with the protected range.
+-- `judgement::judge_lock` meets its contract: the lock, then what the extent shares with the protected range.
 -- Assumes nothing.
 use borrow.Author.Needs.{needs}
 use mathlib.Core.Path.{sym, _∙_}
-use Rattle.access.specs.Judging.{apartAnswer, lockAnswer}
-use Rattle.access.proofs.judge_lock.Statement.{statement}
-use Rattle.access.proofs.judge_lock.Tie as tie
+use Rattle.judgement.specs.Judging.{apartAnswer, lockAnswer}
+use Rattle.judgement.proofs.judge_lock.Statement.{statement}
+use Rattle.judgement.proofs.judge_lock.Tie as tie
 
 returns : tie.Need-returns
 unfolding lockAnswer

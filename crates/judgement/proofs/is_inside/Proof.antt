@@ -1,12 +1,12 @@
--- `access::is_inside` meets its contract: the rest of the volume past the count tells.
+-- `judgement::is_inside` meets its contract: the rest of the volume past the count tells.
 -- Assumes nothing.
 use Prim.Native.Nat.{_+_, _/_, _<_}
 use native.Mathlib.Omega.{arith}
 use borrow.Author.Tests.{lt-leb}
 use Rattle.sector_map.specs.SectorMap.{sectors}
-use Rattle.access.proofs.JudgingLaws.{inside-by-rest}
-use Rattle.access.proofs.is_inside.Statement.{statement}
-use Rattle.access.proofs.is_inside.Tie as tie
+use Rattle.judgement.proofs.JudgingLaws.{inside-by-rest}
+use Rattle.judgement.proofs.is_inside.Statement.{statement}
+use Rattle.judgement.proofs.is_inside.Tie as tie
 
 returns : tie.Need-returns
 unfolding sectors

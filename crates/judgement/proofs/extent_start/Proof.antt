@@ -1,12 +1,12 @@
--- `access::extent_start` meets its contract: the extent starts by the end of a sound layout.
+-- `judgement::extent_start` meets its contract: the extent starts by the end of a sound layout.
 -- Assumes nothing.
 use borrow.Author.Needs.{needs}
 use native.Mathlib.Omega.{arith}
 use Rattle.layout.proofs.RuleLaws.{sound-end-le}
 use Rattle.sector_map.specs.SectorMap.{sectors}
-use Rattle.access.specs.Moving.{extentStart}
-use Rattle.access.proofs.extent_start.Statement.{statement}
-use Rattle.access.proofs.extent_start.Tie as tie
+use Rattle.judgement.specs.Offsets.{extentStart}
+use Rattle.judgement.proofs.extent_start.Statement.{statement}
+use Rattle.judgement.proofs.extent_start.Tie as tie
 
 mul-result : tie.Need-mul-result
 unfolding sectors

@@ -1,11 +1,11 @@
--- `access::judge_write` meets its contract: the checks of every call, then those of a write.
+-- `judgement::judge_write` meets its contract: the checks of every call, then those of a write.
 -- Assumes nothing.
 use borrow.Author.Needs.{needs}
 use mathlib.Core.Path.{_∙_}
-use Rattle.access.specs.Judging.{writeAnswer}
-use Rattle.access.proofs.JudgingLaws.{read-passed, checked-passed, checked-refused}
-use Rattle.access.proofs.judge_write.Statement.{statement}
-use Rattle.access.proofs.judge_write.Tie as tie
+use Rattle.judgement.specs.Judging.{writeAnswer}
+use Rattle.judgement.proofs.JudgingLaws.{read-passed, checked-passed, checked-refused}
+use Rattle.judgement.proofs.judge_write.Statement.{statement}
+use Rattle.judgement.proofs.judge_write.Tie as tie
 
 judge-read-requires : tie.Need-judge-read-requires
 judge-read-requires c κs = search needs

@@ -1,12 +1,12 @@
--- `access::judge_read` meets its contract: each return is under the checks that were passed, in their order.
+-- `judgement::judge_read` meets its contract: each return is under the checks that were passed, in their order.
 -- Assumes nothing.
 use borrow.Author.Needs.{needs}
 use mathlib.Core.{Path.{_≡_, sym, _∙_}, Bool.true}
 use borrow.Author.Tests.{eq-eqb, ne-eqb, le-leb, lt-leb, not-true, not-false}
 use Rattle.protection.specs.Protection.{soundProtection}
-use Rattle.access.specs.Judging.{checked, readAnswer}
-use Rattle.access.proofs.judge_read.Statement.{statement}
-use Rattle.access.proofs.judge_read.Tie as tie
+use Rattle.judgement.specs.Judging.{checked, readAnswer}
+use Rattle.judgement.proofs.judge_read.Statement.{statement}
+use Rattle.judgement.proofs.judge_read.Tie as tie
 
 -- past the first check the layout is sound, and what is protected
 both-sound : (c : tie.Else1) → let a = c .before .before .args in soundProtection (a .layout) (a .protection) ≡ true

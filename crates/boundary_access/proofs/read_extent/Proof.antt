@@ -1,0 +1,29 @@
+-- `boundary_access::read_extent` meets its contract: the offset of the view that the numbers tell.
+-- Assumes nothing.
+use borrow.Author.Needs.{needs}
+use Rattle.boundary_access.proofs.ToldViewLaws.{read-extent-call}
+use Rattle.boundary_access.proofs.read_extent.Statement.{statement}
+use Rattle.boundary_access.proofs.read_extent.Tie as tie
+
+view-from-requires : tie.Need-view-from-requires
+view-from-requires c κs = search needs
+
+read-extent-requires : tie.Need-read-extent-requires
+read-extent-requires c κs = search needs
+
+give-number-requires : tie.Need-give-number-requires
+give-number-requires c κs = search needs
+
+returns : tie.Need-returns
+returns c =
+    let placed = c .before .before in
+    read-extent-call _ _ _ _ _ _ (placed .before .view-from .ensures) _ (placed .read-extent .ensures) _ _ _ (c .give-number .ensures)
+
+pub read-extent-spec : {M : Type 1} → statement M
+read-extent-spec =
+    tie.close
+    (tie.spec
+    view-from-requires
+    read-extent-requires
+    give-number-requires
+    returns)

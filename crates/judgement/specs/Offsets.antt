@@ -1,0 +1,15 @@
+-- Where in the host a call finds its bytes (RULES.md, Reads and writes): what the contracts of `judgement` cite, and those of `access`
+-- above it. Assumes nothing.
+use Prim.Native.Nat.{ℕ, _+_, _*_}
+use Rattle.answers.specs.declared.{Answer.Answer, Numbered.{Numbered, the-variants.{Number, Refused}}}
+use Rattle.answers.specs.declared.Answer.the-variants as answer
+use Rattle.layout.specs.{Rules.sectorBytes, declared.Layout.Layout}
+
+-- the first byte of an extent in the host: O and 512 for each user sector before it
+unfoldable pub extentStart : Layout → ℕ → ℕ
+extentStart layout first = layout .«data_start» + first * sectorBytes
+
+-- the extent's first byte where an answer accepts, else the refusal
+unfoldable pub offsetBy : Answer → Layout → ℕ → Numbered
+offsetBy answer.Accepted layout first = Number (extentStart layout first)
+offsetBy (answer.Refused number) layout first = Refused number

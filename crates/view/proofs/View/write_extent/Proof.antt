@@ -1,0 +1,29 @@
+-- `view::View::write_extent` meets its contract: where the write finds its bytes, and the lock after it.
+-- Assumes nothing.
+use borrow.Author.Needs.{needs}
+use mathlib.Core.Path.{refl, ap, _∙_}
+use Rattle.answers.specs.Answers.{numberedRefusal}
+use Rattle.judgement.proofs.OffsetLaws.{offset-number}
+use Rattle.view.specs.Outcomes.{after, writePlaced}
+use Rattle.view.proofs.View.write_extent.Statement.{statement}
+use Rattle.view.proofs.View.write_extent.Tie as tie
+
+write-extent-requires : tie.Need-write-extent-requires
+write-extent-requires c κs = search needs
+
+numbered-refusal-requires : tie.Need-numbered-refusal-requires
+numbered-refusal-requires c κs = search needs
+
+locked-after-requires : tie.Need-locked-after-requires
+locked-after-requires c κs = search needs
+
+returns : tie.Need-returns
+unfolding writePlaced after
+returns c =
+    let number = c .before in
+    let placed = number .before in
+    let same = number .numbered-refusal .ensures ∙ ap numberedRefusal (placed .write-extent .ensures) ∙ offset-number _ _ _ in
+    rw (c .locked-after .ensures, same, placed .write-extent .ensures) refl
+
+pub write-extent-spec : {M : Type 1} → statement M
+write-extent-spec = tie.close (tie.spec write-extent-requires numbered-refusal-requires locked-after-requires returns)
