@@ -252,6 +252,19 @@ uint64_t ondristela_read(const struct ondristela_view *view, const uint8_t *imag
 uint64_t ondristela_write(struct ondristela_view *view, uint8_t *image, size_t image_size, uint64_t first,
                           uint64_t count, const uint8_t *buffer, size_t buffer_size);
 
+/* For a caller that moves the bytes itself, with pread and pwrite or on a disk too large to map. Stores where in
+ * the host the `count` sectors from user sector `first` on begin, for an image and a buffer of these sizes: the
+ * `buffer_size` bytes from *offset on, which lie inside the host, are what ondristela_read would give.
+ * Refusals: those of ondristela_read with such sizes. They leave *offset as it was. */
+uint64_t ondristela_read_extent(const struct ondristela_view *view, uint64_t image_size, uint64_t first,
+                                uint64_t count, uint64_t buffer_size, uint64_t *offset);
+
+/* The same for a write: the buffer's bytes stored from *offset on are what ondristela_write would leave.
+ * Refusals: those of ondristela_write with such sizes. They leave *offset as it was, and the view too, except
+ * that 18 sets its `locked` to 1. */
+uint64_t ondristela_write_extent(struct ondristela_view *view, uint64_t image_size, uint64_t first,
+                                 uint64_t count, uint64_t buffer_size, uint64_t *offset);
+
 /* CRC-32 of ITU-T V.42, the checksum in headers: 0xCBF43926 for the nine bytes "123456789". */
 uint32_t ondristela_crc32(const uint8_t *bytes, size_t bytes_size);
 

@@ -1,4 +1,5 @@
-//! Reads and writes on views that a caller made up, compared with the rules in `reference`.
+//! Reads and writes on views that a caller made up, and those whose bytes the caller moves itself at the extent
+//! that the library tells, compared with the rules in `reference`.
 
 mod cases;
 mod reference;
@@ -91,6 +92,55 @@ fn check_write(access: &Access, given: &mut Memory, expected: &mut Memory, case:
     answer
 }
 
+/// What stands in an offset before a call.
+const UNTOLD: u64 = 0xABCD_EF01_2345_6789;
+
+/// The offset where a call accepts. A refusal must leave what stood there.
+fn told(answer: u64, offset: [u64; 1]) -> Option<usize> {
+    assert!(answer == 0 || offset == [UNTOLD], "a refused extent stored an offset");
+    (answer == 0).then_some(offset[0] as usize)
+}
+
+/// Asks the library for the read's extent and takes the bytes from there, and reads with the reference.
+fn check_read_extent(access: &Access, given: &mut Memory, expected: &mut Memory, case: u64) -> u64 {
+    let Access { view, image_size, extent, buffer_size } = access;
+    let expected_answer =
+        access::read(view, &expected.image[..*image_size], *extent, &mut expected.buffer[..*buffer_size]);
+    let (numbers, mut offset) = (view.numbers(), [UNTOLD]);
+    let (image, buffer) = (*image_size as u64, *buffer_size as u64);
+    let answer = raw::read_extent(&numbers, image, extent.first, extent.count, buffer, &mut offset);
+    assert_eq!(answer, expected_answer, "read's extent, seed {SEED} case {case}: {access:?}");
+    if let Some(start) = told(answer, offset) {
+        given.buffer[..*buffer_size].copy_from_slice(&given.image[start..start + *buffer_size]);
+    }
+    answer
+}
+
+/// Asks the library for the write's extent and stores the bytes there, and writes with the reference.
+fn check_write_extent(access: &Access, given: &mut Memory, expected: &mut Memory, case: u64) -> u64 {
+    let Access { view, image_size, extent, buffer_size } = access;
+    let mut expected_view = *view;
+    let expected_answer = access::write(
+        &mut expected_view,
+        &mut expected.image[..*image_size],
+        *extent,
+        &expected.buffer[..*buffer_size],
+    );
+    let (mut numbers, mut offset) = (view.numbers(), [UNTOLD]);
+    let (image, buffer) = (*image_size as u64, *buffer_size as u64);
+    let answer = raw::write_extent(&mut numbers, image, extent.first, extent.count, buffer, &mut offset);
+    assert_eq!(answer, expected_answer, "write's extent, seed {SEED} case {case}: {access:?}");
+    assert_eq!(
+        numbers,
+        expected_view.numbers(),
+        "write's extent's view, seed {SEED} case {case}: {access:?}"
+    );
+    if let Some(start) = told(answer, offset) {
+        given.image[start..start + *buffer_size].copy_from_slice(&given.buffer[..*buffer_size]);
+    }
+    answer
+}
+
 type Check = fn(&Access, &mut Memory, &mut Memory, u64) -> u64;
 
 /// Checks the cases on one pair of memories that live through all of them.
@@ -126,6 +176,41 @@ fn reads() {
 #[test]
 fn writes() {
     check_cases("write", check_write).assert_exactly(&[0, 11, 13, 14, 15, 16, 17, 18], 1_000);
+}
+
+#[test]
+fn read_extents() {
+    check_cases("read_extent", check_read_extent).assert_exactly(&[0, 11, 13, 14, 15, 16], 1_000);
+}
+
+#[test]
+fn write_extents() {
+    check_cases("write_extent", check_write_extent).assert_exactly(&[0, 11, 13, 14, 15, 16, 17, 18], 1_000);
+}
+
+/// Hosts that no memory holds: the largest, and the last sectors of the volume that fills it.
+#[test]
+fn extents_of_the_largest_host() {
+    let host_size = 1_u64 << 50;
+    let (data_start, data_size) = (131_072, host_size - 262_144);
+    let view = [host_size, 0, 0, 5, 7, data_start, data_size, 0, 0, 0, 0, 0];
+    let sectors = data_size / 512;
+    for (first, count, expected) in [
+        (0, 1, Ok(data_start)),
+        (sectors - 128, 128, Ok(host_size - 131_072 - 65_536)),
+        (sectors, 0, Ok(host_size - 131_072)),
+        (sectors - 127, 128, Err(16)),
+        (u64::MAX, 128, Err(16)),
+    ] {
+        let mut offset = [UNTOLD];
+        let answer = raw::read_extent(&view, host_size, first, count, count * 512, &mut offset);
+        let given = if answer == 0 { Ok(offset[0]) } else { Err(answer) };
+        assert_eq!(given, expected, "read's extent of {count} sectors from {first} on");
+        let mut offset = [UNTOLD];
+        let answer = raw::write_extent(&mut view.clone(), host_size, first, count, count * 512, &mut offset);
+        let given = if answer == 0 { Ok(offset[0]) } else { Err(answer) };
+        assert_eq!(given, expected, "write's extent of {count} sectors from {first} on");
+    }
 }
 
 /// The writes of these cases hold those that known mistakes would judge otherwise: an extent whose first and

@@ -1,4 +1,5 @@
-/* Reads and writes of one image of the worked cases' host, each with a check of what it leaves in memory. */
+/* Reads and writes of one image of the worked cases' host, each with a check of what it leaves in memory, and of
+ * what the extent call says beforehand. */
 #include "image.h"
 
 #include <string.h>
@@ -20,14 +21,26 @@ void fill_image(void)
         image[index] = (index * 31 + index / 512) & 0xFF;
 }
 
+/* Whether an extent call said what the read or write then did: the same answer, and accepted the offset of the
+ * extent's first byte. */
+static int was_told(const struct ondristela_view *view, uint64_t first, uint64_t told, uint64_t offset,
+                    uint64_t answer)
+{
+    if (answer == ONDRISTELA_ACCEPTED)
+        return told == answer && offset == view->layout.data_start + first * 512;
+    return told == answer && is_filled(&offset, sizeof offset);
+}
+
 uint64_t write_at(struct ondristela_view *view, size_t image_size, uint64_t first, uint64_t count,
                   size_t buffer_size)
 {
     static uint8_t byte;
-    struct ondristela_view expected = *view;
-    uint64_t answer;
+    struct ondristela_view expected = *view, asked = *view;
+    uint64_t answer, told, offset;
 
     byte++;
+    fill(&offset, sizeof offset);
+    told = ondristela_write_extent(&asked, image_size, first, count, buffer_size, &offset);
     memset(buffer, byte, sizeof buffer);
     memcpy(expected_image, image, sizeof image);
     answer = ondristela_write(view, image, image_size, first, count, buffer, buffer_size);
@@ -35,21 +48,25 @@ uint64_t write_at(struct ondristela_view *view, size_t image_size, uint64_t firs
         memset(expected_image + view->layout.data_start + first * 512, byte, buffer_size);
     if (answer == ONDRISTELA_REFUSED_PROTECTED)
         expected.locked = 1;
+    if (!was_told(view, first, told, offset, answer) || !same_view(&asked, &expected))
+        return CHANGED;
     return memcmp(image, expected_image, sizeof image) == 0 && same_view(view, &expected) ? answer : CHANGED;
 }
 
 uint64_t read_at(const struct ondristela_view *view, size_t image_size, uint64_t first, uint64_t count,
                  size_t buffer_size)
 {
-    uint64_t answer;
+    uint64_t answer, told, offset;
 
+    fill(&offset, sizeof offset);
+    told = ondristela_read_extent(view, image_size, first, count, buffer_size, &offset);
     fill(buffer, sizeof buffer);
     fill(expected_buffer, sizeof expected_buffer);
     memcpy(expected_image, image, sizeof image);
     answer = ondristela_read(view, image, image_size, first, count, buffer, buffer_size);
     if (answer == ONDRISTELA_ACCEPTED)
         memcpy(expected_buffer, image + view->layout.data_start + first * 512, buffer_size);
-    return memcmp(image, expected_image, sizeof image) == 0
+    return was_told(view, first, told, offset, answer) && memcmp(image, expected_image, sizeof image) == 0
            && memcmp(buffer, expected_buffer, sizeof buffer) == 0 ? answer : CHANGED;
 }
 

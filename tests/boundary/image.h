@@ -1,4 +1,5 @@
-/* Reads and writes of one image of the worked cases' host, each with a check of what it leaves in memory. */
+/* Reads and writes of one image of the worked cases' host, each with a check of what it leaves in memory, and of
+ * what the extent call says beforehand. */
 #ifndef IMAGE_H
 #define IMAGE_H
 
