@@ -1,16 +1,34 @@
 -- `judgement::judge_read` meets its contract: each return is under the checks that were passed, in their order.
 -- Assumes nothing.
 use borrow.Author.Needs.{needs}
+use Prim.Native.Nat.{_*_}
 use mathlib.Core.{Path.{_≡_, sym, _∙_}, Bool.true}
+use lib.Dec.{leb, eqb}
 use borrow.Author.Tests.{eq-eqb, ne-eqb, le-leb, lt-leb, not-true, not-false}
 use Rattle.protection.specs.Protection.{soundProtection}
-use Rattle.judgement.specs.Judging.{checked, readAnswer}
+use Rattle.layout.specs.Rules.{sectorBytes}
+use Rattle.judgement.specs.Judging.{maxCount, checked, readAnswer}
 use Rattle.judgement.proofs.judge_read.Statement.{statement}
 use Rattle.judgement.proofs.judge_read.Tie as tie
 
 -- past the first check the layout is sound, and what is protected
 both-sound : (c : tie.Else1) → let a = c .before .before .args in soundProtection (a .layout) (a .protection) ≡ true
 both-sound c = sym (c .before .is-sound .ensures) ∙ not-false _ (c .if1 .left)
+
+-- past the fourth check: what the first four say
+abbrev second : tie.Else4 → tie.Else2
+second c = c .before .before
+
+four-passed : (c : tie.Else4)
+    → let first = second c .before .before in
+    let a = first .before .before .args in
+    (soundProtection (a .layout) (a .protection) ≡ true)
+    × (eqb (a .image-size) (a .layout .«host_size») ≡ true)
+    × (leb (a .count) maxCount ≡ true)
+    × (eqb (a .buffer-size) (a .count * sectorBytes) ≡ true)
+four-passed c =
+    let two = second c in
+    (both-sound (two .before .before), eq-eqb _ _ (two .if2 .left), le-leb _ _ (c .before .if3 .left), eq-eqb _ _ (c .if4 .left))
 
 is-sound-requires : tie.Need-is-sound-requires
 is-sound-requires c κs = search needs
@@ -44,28 +62,14 @@ is-inside-requires c κs = search needs
 returns-5 : tie.Need-returns-5
 unfolding readAnswer checked
 returns-5 c =
-    let four = c .before .before in
-    let two = four .before .before in
-    simp (
-      both-sound (two .before .before),
-      eq-eqb _ _ (two .if2 .left),
-      le-leb _ _ (four .before .if3 .left),
-      eq-eqb _ _ (four .if4 .left),
-      sym (c .before .is-inside .ensures) ∙ not-true _ (c .if5 .taken),
-    )
+    let p = four-passed (c .before .before) in
+    simp (p .0, p .1, p .2, p .3, sym (c .before .is-inside .ensures) ∙ not-true _ (c .if5 .taken))
 
 returns-6 : tie.Need-returns-6
 unfolding readAnswer checked
 returns-6 c =
-    let four = c .before .before in
-    let two = four .before .before in
-    simp (
-      both-sound (two .before .before),
-      eq-eqb _ _ (two .if2 .left),
-      le-leb _ _ (four .before .if3 .left),
-      eq-eqb _ _ (four .if4 .left),
-      sym (c .before .is-inside .ensures) ∙ not-false _ (c .if5 .left),
-    )
+    let p = four-passed (c .before .before) in
+    simp (p .0, p .1, p .2, p .3, sym (c .before .is-inside .ensures) ∙ not-false _ (c .if5 .left))
 
 pub judge-read-spec : {M : Type 1} → statement M
 judge-read-spec =
