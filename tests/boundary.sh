@@ -1,16 +1,13 @@
 #!/usr/bin/env bash
 # Compiles tests/boundary as C11 and as C++ with all warnings, links it with the static library and runs it.
-# The library is libondristela.a in the folder ONDRISTELA_LIB_DIR, by default target/staticlib, where
-# `rt staticlib ondristela` writes it. Fails on a warning, on a failed check, and where the example in
-# include/ondristela.h is not the one that is compiled.
+# The library is tools/build.sh's, or the one in the folder ONDRISTELA_LIB_DIR. Fails on a warning, on a failed
+# check, and where the example in include/ondristela.h is not the one that is compiled.
 set -euo pipefail
 
 root=$(cd "$(dirname "$0")/.." && pwd)
+"$root/tools/needs.sh" gcc g++
+"$root/tools/build.sh" library
 folder=${ONDRISTELA_LIB_DIR:-$root/target/staticlib}
-if ! [ -f "$folder/libondristela.a" ]; then
-    echo "$folder/libondristela.a is not there: run rt staticlib ondristela" >&2
-    exit 2
-fi
 work=$(mktemp -d)
 trap 'rm -rf "$work"' EXIT
 
