@@ -62,6 +62,12 @@
 extern "C" {
 #endif
 
+/* The version of this header and of the library that is installed with it. */
+
+/* version: written by tools/version.py from rust/Cargo.toml */
+#define ONDRISTELA_VERSION "0.1.0"
+/* end of version */
+
 /* The answer of a call that is accepted. */
 #define ONDRISTELA_ACCEPTED 0
 
