@@ -1,6 +1,8 @@
-.PHONY: all map library example bench test
+PREFIX ?= /usr/local
 
-# The library and both programs.
+.PHONY: all map library example bench test install uninstall
+
+# What `make install` copies: the library and both programs.
 all:
 	@tools/build.sh library volmap volumes
 
@@ -26,3 +28,12 @@ bench:
 
 test:
 	@.ci/run
+
+install uninstall: export DESTDIR := $(DESTDIR)
+install uninstall: export PREFIX := $(PREFIX)
+
+install: all
+	@tools/install.sh
+
+uninstall:
+	@tools/install.sh --remove

@@ -51,6 +51,10 @@
  * x86-64 Linux. It needs only the C library, and no flag of its own; this header needs C99 or C++11:
  *
  *   gcc recorder.c -Iinclude -Ltarget/staticlib -londristela
+ *
+ * or, once `make install` has put it with this header where pkg-config finds both:
+ *
+ *   gcc recorder.c $(pkg-config --cflags --libs ondristela)
  */
 #ifndef ONDRISTELA_H
 #define ONDRISTELA_H

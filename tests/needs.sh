@@ -53,6 +53,7 @@ stops() {
 stops 'make map' rt
 stops 'make library' rt
 stops 'make all' rt cargo cc
+stops 'make install' rt cargo cc
 stops 'make example' rt cargo cc
 stops 'make bench' rt cargo cc
 stops 'make test' rt cargo python3 gcc g++
