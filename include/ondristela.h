@@ -2,12 +2,13 @@
  *
  * A volume's layout comes from its deciphered header, checked against the size of the host, the disk or file
  * that holds it. Sectors are read from and written to an image of the whole host, as they are there,
- * enciphered; a protected view refuses every write that would touch a hidden volume. Every function is proved
- * to end and to meet its contract for all arguments, made-up layouts and views included.
+ * enciphered; a protected view refuses every write that would touch a hidden volume. Every function of the
+ * library is proved to end and to meet its contract for all arguments, made-up layouts and views included.
  *
  * Answers. Every function but ondristela_crc32 returns ONDRISTELA_ACCEPTED, which is 0, or one refusal,
  * ONDRISTELA_REFUSED_..: of those that apply, the first in the order that the function's comment gives. A
  * refusal leaves all memory as it was, except that ONDRISTELA_REFUSED_PROTECTED sets the view's `locked`.
+ * ondristela_refusal_text, which this header defines, gives the sentence for an answer.
  *
  * What the caller owes, and the proof cannot check:
  * - No pointer is null. Each is aligned for its type, and valid for it or for the length that follows. With a
@@ -47,8 +48,8 @@
  *         }
  *     }
  *
- * Linking. `rt staticlib ondristela` proves the library and writes target/staticlib/libondristela.a, for
- * x86-64 Linux. It needs only the C library, and no flag of its own; this header needs C99 or C++11:
+ * Linking. `make library` proves the library and writes target/staticlib/libondristela.a, for x86-64 Linux.
+ * It needs only the C library, and no flag of its own; this header needs C99 or C++11:
  *
  *   gcc recorder.c -Iinclude -Ltarget/staticlib -londristela
  *
@@ -268,7 +269,7 @@ uint32_t ondristela_crc32(const uint8_t *bytes, size_t bytes_size);
 /* What an answer says, for a person who meets it: "accepted", or when the refusal is given and what can be done.
  * A number that no function returns has a sentence too. The text is constant, begins with a small letter and ends
  * without a full stop, so that a program can set it into a message of its own. This function is no part of the
- * library, and nothing is proved of it. */
+ * library: nothing is proved of it. */
 static inline const char *ondristela_refusal_text(uint64_t number)
 {
     switch (number) {
