@@ -2,12 +2,13 @@
  *
  * A volume's layout comes from its deciphered header, checked against the size of the host, the disk or file
  * that holds it. Sectors are read from and written to an image of the whole host, as they are there,
- * enciphered; a protected view refuses every write that would touch a hidden volume. Every function is proved
- * to end and to meet its contract for all arguments, made-up layouts and views included.
+ * enciphered; a protected view refuses every write that would touch a hidden volume. Every function of the
+ * library is proved to end and to meet its contract for all arguments, made-up layouts and views included.
  *
  * Answers. Every function but ondristela_crc32 returns ONDRISTELA_ACCEPTED, which is 0, or one refusal,
  * ONDRISTELA_REFUSED_..: of those that apply, the first in the order that the function's comment gives. A
  * refusal leaves all memory as it was, except that ONDRISTELA_REFUSED_PROTECTED sets the view's `locked`.
+ * ondristela_refusal_text, which this header defines, gives the sentence for an answer.
  *
  * What the caller owes, and the proof cannot check:
  * - No pointer is null. Each is aligned for its type, and valid for it or for the length that follows. With a
@@ -47,10 +48,14 @@
  *         }
  *     }
  *
- * Linking. `rt staticlib ondristela` proves the library and writes target/staticlib/libondristela.a, for
- * x86-64 Linux. It needs only the C library, and no flag of its own; this header needs C11 or C++11:
+ * Linking. `make library` proves the library and writes target/staticlib/libondristela.a, for x86-64 Linux.
+ * It needs only the C library, and no flag of its own; this header needs C99 or C++11:
  *
  *   gcc recorder.c -Iinclude -Ltarget/staticlib -londristela
+ *
+ * or, once `make install` has put it with this header where pkg-config finds both:
+ *
+ *   gcc recorder.c $(pkg-config --cflags --libs ondristela)
  */
 #ifndef ONDRISTELA_H
 #define ONDRISTELA_H
@@ -61,6 +66,12 @@
 #ifdef __cplusplus
 extern "C" {
 #endif
+
+/* The version of this header and of the library that is installed with it. */
+
+/* version: written by tools/version.py from rust/Cargo.toml */
+#define ONDRISTELA_VERSION "0.1.0"
+/* end of version */
 
 /* The answer of a call that is accepted. */
 #define ONDRISTELA_ACCEPTED 0
@@ -190,11 +201,11 @@ struct ondristela_range {
     uint64_t size;
 };
 
-#ifdef __cplusplus
+#if defined(__cplusplus)
 static_assert(sizeof(struct ondristela_layout) == 64, "a layout is eight numbers");
 static_assert(sizeof(struct ondristela_view) == 96, "a view is twelve numbers");
 static_assert(sizeof(struct ondristela_range) == 16, "a range is two numbers");
-#else
+#elif __STDC_VERSION__ >= 201112L
 _Static_assert(sizeof(struct ondristela_layout) == 64, "a layout is eight numbers");
 _Static_assert(sizeof(struct ondristela_view) == 96, "a view is twelve numbers");
 _Static_assert(sizeof(struct ondristela_range) == 16, "a range is two numbers");
@@ -267,6 +278,75 @@ uint64_t ondristela_write_extent(struct ondristela_view *view, uint64_t image_si
 
 /* CRC-32 of ITU-T V.42, the checksum in headers: 0xCBF43926 for the nine bytes "123456789". */
 uint32_t ondristela_crc32(const uint8_t *bytes, size_t bytes_size);
+
+/* What an answer says, for a person who meets it: "accepted", or when the refusal is given and what can be done.
+ * A number that no function returns has a sentence too. The text is constant, begins with a small letter and ends
+ * without a full stop, so that a program can set it into a message of its own. This function is no part of the
+ * library: nothing is proved of it. */
+static inline const char *ondristela_refusal_text(uint64_t number)
+{
+    switch (number) {
+    case ONDRISTELA_ACCEPTED:
+        return "accepted";
+
+    /* sentences: written by tools/refusals.py from refusals.txt */
+    case ONDRISTELA_REFUSED_LENGTHS:
+        return "the candidates are not 1 to 64 headers of 512 bytes, with one location code for each";
+    case ONDRISTELA_REFUSED_CODE:
+        return "a location code is above 3; the codes are 0 standard, 1 hidden, 2 standard backup, 3 "
+               "hidden backup";
+    case ONDRISTELA_REFUSED_HOST_SIZE:
+        return "the host_size is below 262,656, above 2^50, or no multiple of 512";
+    case ONDRISTELA_REFUSED_NO_HEADER:
+        return "no candidate is a header: each has a magic other than VERA and TRUE, or a wrong checksum, "
+               "as after deciphering with a wrong password or cipher";
+    case ONDRISTELA_REFUSED_VERSION:
+        return "the header's version is not supported; for VERA it must be 2 to 5, for TRUE 4 or 5";
+    case ONDRISTELA_REFUSED_RESERVED:
+        return "a reserved flag of the header (bits 2 to 31) is set, or in a VERA header a reserved byte "
+               "(76 to 91, 132 to 251) is not zero";
+    case ONDRISTELA_REFUSED_FLAGS:
+        return "flag bit 0 or 1 of the header is set, which tells of a system volume or one encrypted in "
+               "place; neither is supported";
+    case ONDRISTELA_REFUSED_SECTOR_SIZE:
+        return "the header's sector_size is not 512, the only one that is supported";
+    case ONDRISTELA_REFUSED_HIDDEN_SIZE:
+        return "the header's hidden_size does not fit its location code; it must be 0 for a standard "
+               "volume, and for a hidden one equal to data_size and not 0";
+    case ONDRISTELA_REFUSED_DATA_AREA:
+        return "the header's data area does not fit the host; it must be one or more whole 512-byte "
+               "sectors, with encrypted_size equal to data_size, that start at 131,072 (for a hidden "
+               "volume there or at a later multiple of 512) and end at least 131,072 bytes before the "
+               "host's end";
+    case ONDRISTELA_REFUSED_UNSOUND:
+        return "the layout or view is unsound: its host_size is refused 3, its kind is neither standard "
+               "nor hidden, its data area does not fit the host as 10 has it, or its protected range is "
+               "empty, not of whole sectors, outside the data area or in a hidden volume; use one that an "
+               "accepted call gave";
+    case ONDRISTELA_REFUSED_NOT_NESTED:
+        return "the layouts do not nest; the first must be standard and the second hidden, with the same "
+               "host_size and its data area inside the first's";
+    case ONDRISTELA_REFUSED_IMAGE_SIZE:
+        return "the image is not host_size bytes long; pass the whole host";
+    case ONDRISTELA_REFUSED_COUNT:
+        return "the count is above 128; split the extent over several calls";
+    case ONDRISTELA_REFUSED_BUFFER_SIZE:
+        return "the buffer is not 512 bytes long for each sector of the count";
+    case ONDRISTELA_REFUSED_OUTSIDE:
+        return "first and count add up to more sectors than the volume has; in the map, the user sector is "
+               "not below that number, or the host sector lies outside the data area";
+    case ONDRISTELA_REFUSED_LOCKED:
+        return "the view's write lock is closed, as refusal 18 leaves it; nothing was written, and reads "
+               "still work";
+    case ONDRISTELA_REFUSED_PROTECTED:
+        return "a sector of the write lies in the protected range, which holds the hidden volume; nothing "
+               "was written, and the view now refuses every write";
+    /* end of sentences */
+
+    default:
+        return "the number is no answer of this library";
+    }
+}
 
 #ifdef __cplusplus
 }

@@ -1,42 +1,52 @@
-//! Links the proved static library, and builds it where it is missing.
+//! Links the proved static library.
 //!
-//! `ONDRISTELA_LIB_DIR` names the folder of a library that was built elsewhere. Without it the library
-//! is the repository's `target/staticlib/libondristela.a`, which `rt staticlib ondristela` proves and
-//! writes.
+//! `ONDRISTELA_LIB_DIR` names the folder of a library that was built elsewhere; a path that does not start at the
+//! root starts in this package's folder. Without it the library is the repository's, which `tools/build.sh` proves
+//! and builds where it is missing or was not built from the sources as they are now.
 
 use std::env;
 use std::path::{Path, PathBuf};
-use std::process::Command;
+use std::process::{exit, Command};
+
+const LIBRARY: &str = "libondristela.a";
 
 fn main() {
     println!("cargo:rerun-if-env-changed=ONDRISTELA_LIB_DIR");
-    let folder = match env::var_os("ONDRISTELA_LIB_DIR") {
-        Some(folder) => PathBuf::from(folder),
-        None => built_in_repository(),
+    let package = PathBuf::from(env::var_os("CARGO_MANIFEST_DIR").expect("cargo sets CARGO_MANIFEST_DIR"));
+    let elsewhere = env::var_os("ONDRISTELA_LIB_DIR").filter(|folder| !folder.is_empty());
+    let folder = match elsewhere {
+        Some(folder) => built_elsewhere(&package.join(folder)),
+        None => built_in_repository(package.parent().expect("rust/ stands in the repository")),
     };
-    println!("cargo:rerun-if-changed={}", folder.join("libondristela.a").display());
+    println!("cargo:rerun-if-changed={}", folder.join(LIBRARY).display());
     println!("cargo:rustc-link-search=native={}", folder.display());
     println!("cargo:rustc-link-lib=static=ondristela");
 }
 
-fn built_in_repository() -> PathBuf {
-    let manifest = env::var_os("CARGO_MANIFEST_DIR").expect("cargo sets CARGO_MANIFEST_DIR");
-    let repository = Path::new(&manifest).parent().expect("rust/ stands in the repository").to_owned();
-    let folder = repository.join("target/staticlib");
-    if !folder.join("libondristela.a").exists() {
-        build(&repository);
+fn built_elsewhere(folder: &Path) -> PathBuf {
+    if !folder.join(LIBRARY).is_file() {
+        stop(&format!("ONDRISTELA_LIB_DIR names {}, but no {LIBRARY} is there", folder.display()));
     }
-    folder
+    folder.to_owned()
 }
 
-fn build(repository: &Path) {
-    let status = Command::new("rt").args(["staticlib", "ondristela"]).current_dir(repository).status();
-    match status {
-        Ok(status) if status.success() => {}
-        Ok(status) => panic!("`rt staticlib ondristela` ended with {status}"),
-        Err(error) => panic!(
-            "`rt staticlib ondristela` could not be run ({error}): install the Rattle toolchain, or set \
-             ONDRISTELA_LIB_DIR to the folder of a built libondristela.a"
-        ),
+fn built_in_repository(repository: &Path) -> PathBuf {
+    for source in ["crates", "crates.txt", "tools/build.sh"] {
+        println!("cargo:rerun-if-changed={}", repository.join(source).display());
     }
+    match Command::new("bash").arg(repository.join("tools/build.sh")).arg("library").status() {
+        Ok(status) if status.success() => {}
+        Ok(_) => stop(
+            "the library was not built; ONDRISTELA_LIB_DIR may name the folder of a libondristela.a that was \
+             built elsewhere",
+        ),
+        Err(error) => stop(&format!("tools/build.sh, which builds the library, needs bash ({error})")),
+    }
+    repository.join("target/staticlib")
+}
+
+/// Ends with a sentence and no more, which cargo shows.
+fn stop(sentence: &str) -> ! {
+    eprintln!("{sentence}");
+    exit(1)
 }

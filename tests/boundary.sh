@@ -1,16 +1,14 @@
 #!/usr/bin/env bash
-# Compiles tests/boundary as C11 and as C++ with all warnings, links it with the static library and runs it.
-# The library is libondristela.a in the folder ONDRISTELA_LIB_DIR, by default target/staticlib, where
-# `rt staticlib ondristela` writes it. Fails on a warning, on a failed check, and where the example in
-# include/ondristela.h is not the one that is compiled.
+# Compiles tests/boundary as C11 and as C++ with all warnings, links it with the static library and runs it, and
+# the header alone as each C and C++ that it is for. The library is tools/build.sh's, or the one in the folder
+# ONDRISTELA_LIB_DIR. Fails on a warning, on a failed check, and where the example in include/ondristela.h is not
+# the one that is compiled.
 set -euo pipefail
 
 root=$(cd "$(dirname "$0")/.." && pwd)
+"$root/tools/needs.sh" gcc g++
+"$root/tools/build.sh" library
 folder=${ONDRISTELA_LIB_DIR:-$root/target/staticlib}
-if ! [ -f "$folder/libondristela.a" ]; then
-    echo "$folder/libondristela.a is not there: run rt staticlib ondristela" >&2
-    exit 2
-fi
 work=$(mktemp -d)
 trap 'rm -rf "$work"' EXIT
 
@@ -45,12 +43,24 @@ links_sanitizers() {
     echo 'int main(void) { return 0; }' | gcc -x c - "${sanitizers[@]}" -o "$work/empty" 2>/dev/null
 }
 
+# header_alone COMPILER FLAG..: a file that includes the header and uses nothing of it.
+header_alone() {
+    echo '#include "ondristela.h"' | "$@" -I"$root/include" -fsyntax-only -
+}
+
 example=$(sed -n '/^ \*     static .*write_outer_sector/,/^ \*     }$/s/^ \* \{0,5\}//p' \
     "$root/include/ondristela.h")
 if [ -z "$example" ] || [[ $(<"$root/tests/boundary/example.c") != *"$example"* ]]; then
     echo 'the example in include/ondristela.h is not the function in tests/boundary/example.c' >&2
     exit 1
 fi
+
+for standard in c99 c11 c17; do
+    header_alone gcc "-std=$standard" -x c "${warnings[@]}"
+done
+for standard in c++11 c++17 c++20; do
+    header_alone g++ "-std=$standard" "${cpp[@]}"
+done
 
 run 'gcc, C11' gcc "${c[@]}" -O2
 run 'g++, C++11' g++ "${cpp[@]}" -std=c++11

@@ -43,6 +43,7 @@ EDITS = {
         ('argument or field renamed', r'\w+(?=[,;)\[])', r'\g<0>_again'),
         ('fields exchanged', r'\n( +[^\n();]*;[^\n]*)\n( +[^\n();]*;[^\n]*)', r'\n\2\n\1'),
         ('length of another type', 'size_t', 'uint64_t'),
+        ('defined in the header', r'(?s)\A\n(uint\d+_t ondristela_.*);\Z', r'\nstatic inline \1\n{\n}'),
         ('const dropped', r'\bconst ', ''),
         ('const added', r'(?<!const )((?:struct \w+|uint\d+_t) (?:\*|\w+\[))', r'const \1'),
     ],

@@ -8,7 +8,7 @@ What Rattle declares is what is proved. C and Rust must have the same functions,
 name and in order. A slice `image` is a pointer, to const where it is only read, and a length `image_size`. An
 array is a pointer to as many numbers; C may write it as an array, as a struct of so many numbers or, for one
 number, as a plain pointer. A struct has the numbers that a function of Rattle stores, by name and in order. A
-length may be a constant of boundary_numbers.
+length may be a constant of boundary_numbers. What the C header itself defines, as static inline, is not compared.
 """
 import re
 import sys
@@ -207,6 +207,11 @@ def c_matches(text):
     return list(re.finditer(r'^(\w+) (ondristela_\w+)\(([^)]*)\);', text, re.M))
 
 
+def inline_matches(text):
+    """The functions that the header defines itself."""
+    return list(re.finditer(r'^static inline [^;{}]*\)\n\{$.*?^\}$', text, re.M | re.S))
+
+
 def c_functions(text):
     known = structs(text)
     return {match[2]: Declaration(place(HEADER, text, match.start()),
@@ -331,7 +336,7 @@ def rattle_problems(rattle):
 def header_problems(header, rattle, numbers, opening, layout):
     declared = {name: number_for_array_of_one(item) for name, item in c_functions(header).items()}
     expected = {name: number_for_array_of_one(item) for name, item in raw(rattle, numbers).items()}
-    return [*strays(HEADER, header, r'ondristela_\w+\s*\(', c_matches(header)),
+    return [*strays(HEADER, header, r'ondristela_\w+\s*\(', c_matches(header) + inline_matches(header)),
             *compared(HEADER, declared, expected),
             *struct_problems(header, numbers, opening, layout)]
 

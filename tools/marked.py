@@ -31,12 +31,16 @@ def check(files, script):
     sys.exit(1 if wrong else 0)
 
 
-def run(blocks, script, usage):
-    """Writes the files or, with --check, fails where one would be another."""
-    files = written(blocks)
+def put(files, script, usage):
+    """Writes the files, by path, or with --check fails where one would be another."""
     if sys.argv[1:] == ['--check']:
         check(files, script)
     if sys.argv[1:]:
         sys.exit(usage)
     for name, text in files.items():
         (ROOT / name).write_text(text)
+
+
+def run(blocks, script, usage):
+    """Puts the files that have these blocks between their markers."""
+    put(written(blocks), script, usage)

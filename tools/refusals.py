@@ -15,6 +15,7 @@ KEYS = ['number', 'constant', 'variant', 'sentence']
 WIDTH = 110
 
 C_MARKERS = ('/* refusals: written by tools/refusals.py from refusals.txt */\n', '/* end of refusals */\n')
+C_TEXT_MARKERS = ('    /* sentences: written by tools/refusals.py from refusals.txt */\n', '    /* end of sentences */\n')
 README_MARKERS = ('<!-- refusals -->\n', '<!-- /refusals -->\n')
 
 
@@ -54,6 +55,13 @@ def c_constant(record):
 
 def c_block(records):
     return '\n' + '\n'.join(c_constant(record) for record in records) + '\n'
+
+
+def c_case(record):
+    """A case of a switch over the numbers; a sentence that is too long for its line goes on in the next."""
+    lines = textwrap.wrap(record['sentence'], WIDTH - 20)
+    literal = (' "\n' + ' ' * 15 + '"').join(lines)
+    return f'    case ONDRISTELA_REFUSED_{record["constant"]}:\n        return "{literal}";\n'
 
 
 # README.
@@ -100,7 +108,10 @@ def rust_markers(indent, what):
 def blocks(records):
     """What stands between markers: for each file, pairs of the markers and what they hold."""
     return {
-        'include/ondristela.h': [(C_MARKERS, c_block(records))],
+        'include/ondristela.h': [
+            (C_MARKERS, c_block(records)),
+            (C_TEXT_MARKERS, ''.join(map(c_case, records))),
+        ],
         'README.md': [(README_MARKERS, readme_block(records))],
         'rust/src/refusal.rs': [
             (rust_markers(' ' * 4, 'variants'), ''.join(map(rust_variant, records))),

@@ -8,6 +8,7 @@ int main(void)
 {
     fill_image();
     test_constants();
+    test_refusal_text();
     test_locations();
     test_sector_map();
     test_opening();

@@ -3,6 +3,7 @@
 #define TESTS_H
 
 void test_constants(void);
+void test_refusal_text(void);
 void test_locations(void);
 void test_sector_map(void);
 void test_opening(void);
