@@ -28,6 +28,8 @@ mod library {
         pub fn ondristela_view_protected(outer: *const LayoutNumbers, hidden: *const LayoutNumbers, view: *mut ViewNumbers) -> u64;
         pub fn ondristela_read(view: *const ViewNumbers, image: *const u8, image_size: usize, first: u64, count: u64, buffer: *mut u8, buffer_size: usize) -> u64;
         pub fn ondristela_write(view: *mut ViewNumbers, image: *mut u8, image_size: usize, first: u64, count: u64, buffer: *const u8, buffer_size: usize) -> u64;
+        pub fn ondristela_read_extent(view: *const ViewNumbers, image_size: u64, first: u64, count: u64, buffer_size: u64, offset: *mut [u64; 1]) -> u64;
+        pub fn ondristela_write_extent(view: *mut ViewNumbers, image_size: u64, first: u64, count: u64, buffer_size: u64, offset: *mut [u64; 1]) -> u64;
         pub fn ondristela_crc32(bytes: *const u8, bytes_size: usize) -> u32;
     }
 }
@@ -121,6 +123,30 @@ pub fn write(view: &mut ViewNumbers, image: &mut [u8], first: u64, count: u64, b
             buffer.len(),
         )
     }
+}
+
+/// Where a read takes its bytes: the extent's first byte in the host. It is judged as the read is.
+pub fn read_extent(
+    view: &ViewNumbers,
+    image_size: u64,
+    first: u64,
+    count: u64,
+    buffer_size: u64,
+    offset: &mut [u64; 1],
+) -> u64 {
+    unsafe { library::ondristela_read_extent(view, image_size, first, count, buffer_size, offset) }
+}
+
+/// Where a write puts its bytes: the extent's first byte in the host. It is judged as the write is.
+pub fn write_extent(
+    view: &mut ViewNumbers,
+    image_size: u64,
+    first: u64,
+    count: u64,
+    buffer_size: u64,
+    offset: &mut [u64; 1],
+) -> u64 {
+    unsafe { library::ondristela_write_extent(view, image_size, first, count, buffer_size, offset) }
 }
 
 /// CRC-32 of ITU-T V.42.

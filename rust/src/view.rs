@@ -61,4 +61,42 @@ impl View {
         self.locked = numbers[11] != 0;
         Refusal::check(answer)
     }
+
+    /// Where a read takes its bytes, for an image that is not in memory: the extent's first byte in the host.
+    /// It is judged as the read of `count` sectors of an image and into a buffer of these sizes is.
+    pub fn read_extent(
+        &self,
+        image_size: u64,
+        first: u64,
+        count: u64,
+        buffer_size: u64,
+    ) -> Result<u64, Refusal> {
+        let mut offset = [0];
+        Refusal::check(raw::read_extent(
+            &self.numbers(),
+            image_size,
+            first,
+            count,
+            buffer_size,
+            &mut offset,
+        ))?;
+        Ok(offset[0])
+    }
+
+    /// Where a write puts its bytes, for an image that is not in memory: the extent's first byte in the host.
+    /// It is judged as the write is; `Refusal::Protected` locks the view.
+    pub fn write_extent(
+        &mut self,
+        image_size: u64,
+        first: u64,
+        count: u64,
+        buffer_size: u64,
+    ) -> Result<u64, Refusal> {
+        let mut numbers = self.numbers();
+        let mut offset = [0];
+        let answer = raw::write_extent(&mut numbers, image_size, first, count, buffer_size, &mut offset);
+        self.locked = numbers[11] != 0;
+        Refusal::check(answer)?;
+        Ok(offset[0])
+    }
 }

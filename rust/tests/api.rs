@@ -138,6 +138,27 @@ fn a_protected_write_locks_the_view() {
 }
 
 #[test]
+fn extents_are_judged_as_reads_and_writes_are() {
+    let mut view = View::protected(&outer(), &hidden()).unwrap();
+    assert_eq!(view.read_extent(HOST_SIZE, 1_023, 2, 1_024), Ok(131_072 + 1_023 * 512));
+    assert_eq!(view.write_extent(HOST_SIZE, 1_023, 1, 512), Ok(131_072 + 1_023 * 512));
+    assert_eq!(view.write_extent(HOST_SIZE, 1_536, 0, 0), Ok(131_072 + 786_432));
+    let refusals = [
+        (HOST_SIZE + 512, 0, 1, 512, Refusal::ImageSize),
+        (HOST_SIZE, 0, 129, 129 * 512, Refusal::Count),
+        (HOST_SIZE, 0, 1, 511, Refusal::BufferSize),
+        (HOST_SIZE, 1_536, 1, 512, Refusal::Outside),
+    ];
+    for (image_size, first, count, buffer_size, refusal) in refusals {
+        assert_eq!(view.read_extent(image_size, first, count, buffer_size), Err(refusal));
+        assert_eq!(view.write_extent(image_size, first, count, buffer_size), Err(refusal));
+    }
+    assert_eq!(view.write_extent(HOST_SIZE, 1_023, 2, 1_024), Err(Refusal::Protected));
+    assert_eq!((view.locked, view.write_extent(HOST_SIZE, 0, 1, 512)), (true, Err(Refusal::Locked)));
+    assert_eq!(view.read_extent(HOST_SIZE, 0, 1, 512), Ok(131_072));
+}
+
+#[test]
 fn refusals_and_their_numbers() {
     for (index, refusal) in Refusal::ALL.into_iter().enumerate() {
         let number = index as u64 + 1;
