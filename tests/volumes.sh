@@ -1,5 +1,5 @@
 #!/usr/bin/env bash
-# Builds the example program rust/examples/volumes and runs it on the sample that it makes: the demo against
+# Builds the program rust/volumes and runs it on the sample that it makes: the demo against
 # its stored transcript, copies in and out, refusals and what they leave behind, exit statuses.
 # ONDRISTELA_LIB_DIR names the folder of a built libondristela.a, as for every cargo command in rust/.
 # Needs python3 and flock (util-linux). Ends with 1 at the first check that fails.
@@ -7,8 +7,8 @@ set -euo pipefail
 
 root=$(cd "$(dirname "$0")/.." && pwd)
 cd "$root"
-cargo build --quiet --release --offline --example volumes --manifest-path rust/Cargo.toml
-program=$(realpath "${CARGO_TARGET_DIR:-rust/target}")/release/examples/volumes
+cargo build --quiet --release --offline --manifest-path rust/Cargo.toml --package volumes
+program=$(realpath "${CARGO_TARGET_DIR:-rust/target}")/release/volumes
 work=$(mktemp -d)
 trap 'rm -rf "$work"' EXIT
 cd "$work"
@@ -16,7 +16,7 @@ cd "$work"
 checks=0
 passed() { checks=$((checks + 1)); }
 failed() {
-    echo "example: $1; the program said:" >&2
+    echo "volumes: $1; the program said:" >&2
     cat said >&2
     exit 1
 }
@@ -45,7 +45,7 @@ import sys; from vectors.headers import *; sys.stdout.buffer.write($1)"; }
 # The demo, in a new folder and once more in the same one.
 for time in first second; do
     expect "the $time demo" 0 'made disk.img' volumes demo demo
-    same "the $time demo" said "$root/rust/examples/volumes/demo.txt"
+    same "the $time demo" said "$root/rust/volumes/src/demo.txt"
 done
 
 # The sample overwrites no image but its own.
@@ -129,4 +129,4 @@ expect 'a missing argument' 2 'usage: ' volumes show disk.img
 expect 'an unknown volume' 2 'VOLUME is outer or hidden' on_disk read inner 0 1 copy
 expect 'a number that is none' 2 'COUNT is a whole number' on_disk read outer 0 -1 copy
 
-echo "example: $checks checks passed"
+echo "volumes: $checks checks passed"
