@@ -1,29 +1,11 @@
 //! The command line.
 
 use std::ffi::{OsStr, OsString};
-use std::path::PathBuf;
+use std::path::{Path, PathBuf};
 
 use crate::extent::Extent;
+use crate::options::{parted, Options};
 use crate::problem::Problem;
-
-/// What `volumes help` prints.
-pub const USAGE: &str = "\
-volumes sample DIR
-    makes a sample in DIR: disk.img, outer.header, hidden.header
-    (an earlier sample there is made anew, other files are left alone)
-volumes demo DIR
-    makes the sample, shows it and works on it, refusals included
-volumes show IMAGE OUTER_HEADER HIDDEN_HEADER
-    shows where the two volumes lie
-volumes read IMAGE OUTER_HEADER HIDDEN_HEADER VOLUME FIRST COUNT FILE
-    copies COUNT sectors, from sector FIRST on, into a new FILE
-volumes write IMAGE OUTER_HEADER HIDDEN_HEADER VOLUME FIRST FILE
-    copies FILE, whole sectors of 512 bytes, from sector FIRST on
-
-IMAGE is a file or a disk. The headers are deciphered, 512 bytes each.
-VOLUME is outer or hidden; its sectors count from 0.
-Exit status: 0 done, 1 refused, 2 bad usage or a file that cannot be used.
-";
 
 /// One of an image's two volumes.
 #[derive(Clone, Copy)]
@@ -41,15 +23,25 @@ impl Volume {
     }
 }
 
-/// An image and the deciphered headers of its two volumes.
+/// An image and the deciphered headers of its volumes, one or both.
 pub struct Files {
     pub image: PathBuf,
-    pub outer_header: PathBuf,
-    pub hidden_header: PathBuf,
+    pub outer_header: Option<PathBuf>,
+    pub hidden_header: Option<PathBuf>,
+}
+
+impl Files {
+    fn header(&self, volume: Volume) -> Option<&Path> {
+        match volume {
+            Volume::Outer => self.outer_header.as_deref(),
+            Volume::Hidden => self.hidden_header.as_deref(),
+        }
+    }
 }
 
 pub enum Command {
     Help,
+    Version,
     Sample { folder: PathBuf },
     Demo { folder: PathBuf },
     Show { files: Files },
@@ -59,43 +51,128 @@ pub enum Command {
 
 /// The command that the arguments ask for. The program's own name is not among them.
 pub fn parse(arguments: &[OsString]) -> Result<Command, Problem> {
-    let Some((name, rest)) = arguments.split_first() else {
-        return Err(Problem::Usage("no command".to_string()));
+    let (options, words) = parted(arguments)?;
+    if options.help {
+        return Ok(Command::Help);
+    }
+    if options.version {
+        return Ok(Command::Version);
+    }
+    let Some((name, words)) = words.split_first() else {
+        return Err(Problem::usage("no command"));
     };
-    match (name.to_str(), rest) {
-        (Some("help" | "-h" | "--help"), []) => Ok(Command::Help),
-        (Some("sample"), [folder]) => Ok(Command::Sample { folder: folder.into() }),
-        (Some("demo"), [folder]) => Ok(Command::Demo { folder: folder.into() }),
-        (Some("show"), [image, outer, hidden]) => Ok(Command::Show { files: files([image, outer, hidden]) }),
-        (Some("read"), [image, outer, hidden, volume, first, count, target]) => Ok(Command::Read {
-            files: files([image, outer, hidden]),
-            volume: volume_named(volume)?,
-            extent: Extent { first: number("FIRST", first)?, count: number("COUNT", count)? },
-            target: target.into(),
-        }),
-        (Some("write"), [image, outer, hidden, volume, first, source]) => Ok(Command::Write {
-            files: files([image, outer, hidden]),
-            volume: volume_named(volume)?,
-            first: number("FIRST", first)?,
-            source: source.into(),
-        }),
-        _ => Err(Problem::Usage(format!("{name:?} with {} arguments is not a command", rest.len()))),
+    match name.to_str() {
+        Some("show" | "read" | "write") => on_image(name, options, words),
+        Some("help" | "sample" | "demo") if options.for_image() => {
+            Err(Problem::usage(format!("{name:?} takes no headers")))
+        }
+        _ => on_none(name, words),
     }
 }
 
-fn files([image, outer_header, hidden_header]: [&OsString; 3]) -> Files {
-    Files { image: image.into(), outer_header: outer_header.into(), hidden_header: hidden_header.into() }
+fn on_none(name: &OsStr, words: &[&OsStr]) -> Result<Command, Problem> {
+    match (name.to_str(), words) {
+        (Some("help"), []) => Ok(Command::Help),
+        (Some("sample"), [folder]) => Ok(Command::Sample { folder: folder.into() }),
+        (Some("demo"), [folder]) => Ok(Command::Demo { folder: folder.into() }),
+        _ => Err(unknown(name, words)),
+    }
 }
 
-fn volume_named(name: &OsStr) -> Result<Volume, Problem> {
-    [Volume::Outer, Volume::Hidden]
+fn on_image(name: &OsStr, options: Options, words: &[&OsStr]) -> Result<Command, Problem> {
+    match (name.to_str(), words) {
+        (Some("show"), [image]) => Ok(Command::Show { files: files(image, options)? }),
+        (Some("read"), [image, volume, first, count, target]) => {
+            let extent = Extent { first: number("FIRST", first)?, count: number("COUNT", count)? };
+            let (files, volume) = files_with(image, options, volume)?;
+            Ok(Command::Read { files, volume, extent, target: target.into() })
+        }
+        (Some("write"), [image, volume, first, source]) => {
+            let first = number("FIRST", first)?;
+            let (files, volume) = files_with(image, options, volume)?;
+            Ok(Command::Write { files, volume, first, source: source.into() })
+        }
+        _ => Err(unknown(name, words)),
+    }
+}
+
+fn files(image: &OsStr, options: Options) -> Result<Files, Problem> {
+    if options.outer.is_none() && options.hidden.is_none() {
+        return Err(Problem::usage("no header: name one by --outer or --hidden, or both"));
+    }
+    Ok(Files { image: image.into(), outer_header: options.outer, hidden_header: options.hidden })
+}
+
+// The volume to work on is one whose header is given.
+fn files_with(image: &OsStr, options: Options, name: &OsStr) -> Result<(Files, Volume), Problem> {
+    let volume = [Volume::Outer, Volume::Hidden]
         .into_iter()
         .find(|volume| name == volume.name())
-        .ok_or_else(|| Problem::Usage(format!("VOLUME is outer or hidden, not {name:?}")))
+        .ok_or_else(|| Problem::usage(format!("VOLUME is outer or hidden, not {name:?}")))?;
+    let files = files(image, options)?;
+    match files.header(volume) {
+        Some(_) => Ok((files, volume)),
+        None => Err(without_header(volume)),
+    }
+}
+
+/// A volume is named whose header is not given.
+pub fn without_header(volume: Volume) -> Problem {
+    let name = volume.name();
+    Problem::usage(format!("the {name} volume needs its header: --{name} FILE"))
+}
+
+fn unknown(name: &OsStr, words: &[&OsStr]) -> Problem {
+    Problem::usage(format!("{name:?} with {} words after it is not a command", words.len()))
 }
 
 fn number(what: &str, text: &OsStr) -> Result<u64, Problem> {
     text.to_str()
         .and_then(|digits| digits.parse().ok())
-        .ok_or_else(|| Problem::Usage(format!("{what} is a whole number below 2^64, not {text:?}")))
+        .ok_or_else(|| Problem::usage(format!("{what} is a whole number below 2^64, not {text:?}")))
+}
+
+#[cfg(test)]
+mod tests {
+    use super::{parse, Command};
+
+    fn parsed(line: &str) -> Result<Command, String> {
+        let arguments: Vec<_> = line.split_whitespace().map(Into::into).collect();
+        parse(&arguments).map_err(|problem| problem.to_string())
+    }
+
+    #[test]
+    fn options_stand_anywhere() {
+        let lines = [
+            "read --outer=o --hidden h disk outer 1 2 copy",
+            "--hidden h read disk outer 1 2 copy --outer o",
+            "read --outer o --hidden=h -- disk outer 1 2 copy",
+        ];
+        for line in lines {
+            let Ok(Command::Read { files, extent, target, .. }) = parsed(line) else { panic!("{line}") };
+            assert_eq!((files.outer_header, files.hidden_header), (Some("o".into()), Some("h".into())));
+            assert_eq!((extent.first, extent.count, target), (1, 2, "copy".into()));
+        }
+    }
+
+    #[test]
+    fn what_is_wrong_is_named() {
+        let lines = [
+            ("", "no command"),
+            ("show disk", "no header"),
+            ("show disk --outer", "--outer needs a file"),
+            ("show disk --outer a --outer b", "--outer is given twice"),
+            ("show disk --inner a", "\"--inner\" is no option"),
+            ("show disk more --outer a", "\"show\" with 2 words"),
+            ("sample folder --outer a", "takes no headers"),
+            ("read disk inner 0 1 copy --outer a", "VOLUME is outer or hidden"),
+            ("read disk hidden 0 1 copy --outer a", "the hidden volume needs its header"),
+            ("read disk outer 0 -1 copy --outer a", "COUNT is a whole number"),
+            ("write disk outer 18446744073709551616 source --outer a", "FIRST is a whole number"),
+        ];
+        for (line, words) in lines {
+            let told = parsed(line).err().unwrap_or_default();
+            assert!(told.contains(words), "{line}: {told}");
+        }
+    }
 }

@@ -2,12 +2,14 @@
 
 use std::path::Path;
 
-use ondristela::{crc32, Kind, Refusal, View};
+use ondristela::{crc32, Refusal, View};
 
 use crate::extent::Extent;
-use crate::mapping::WritableMapping;
+use crate::image::Image;
+use crate::judging::volume_name;
 use crate::noise::noise;
 use crate::problem::Problem;
+use crate::reading::read_call;
 use crate::sample;
 use crate::show::show;
 use crate::volumes::Volumes;
@@ -16,31 +18,31 @@ use crate::wrapping::wrapped;
 /// Makes the sample, shows it, then writes and reads both volumes, refusals included. Tells what happened.
 pub fn run(folder: &Path) -> Result<String, Problem> {
     let files = sample::make(folder)?;
-    let mut image = WritableMapping::open(&files.image).map_err(Problem::file(&files.image))?;
-    let mut volumes = Volumes::open(&files, image.bytes())?;
-    let shown = show(&files.image, &volumes)?;
-    let told = tour(&mut volumes, image.bytes_mut());
-    image.sync().map_err(Problem::file(&files.image))?;
+    let image = Image::to_write(&files.image)?;
+    let volumes = Volumes::open(&files, &image)?;
+    let shown = show(&files.image, image.size()?, &volumes)?;
+    let Volumes { outer: Some(outer), hidden: Some(hidden) } = volumes else { return Ok(shown) };
+    let told = tour(outer, hidden, &image)?;
+    image.sync()?;
     Ok(format!("{}{shown}\n{told}", sample::made()))
 }
 
 // The outer writes are worked cases of docs/RULES.md, M protecting N: outer sector 1,023 is the last before N.
-fn tour(volumes: &mut Volumes, image: &mut [u8]) -> String {
-    let Volumes { outer, hidden } = volumes;
+fn tour(mut outer: View, mut hidden: View, image: &Image) -> Result<String, Problem> {
     let start = Extent { first: 0, count: 1 };
     let before_hidden = Extent { first: 1_023, count: 1 };
     let into_hidden = Extent { first: 1_023, count: 2 };
-    [
-        write(outer, image, start, &result(1, start)),
-        read(outer, image, start, &result(1, start)),
-        write(hidden, image, start, &result(2, start)),
-        write(outer, image, before_hidden, &result(3, before_hidden)),
-        write(outer, image, into_hidden, &result(4, into_hidden)),
-        write(outer, image, start, &result(5, start)),
-        read(outer, image, start, &result(1, start)),
-        read(hidden, image, start, &result(2, start)),
-    ]
-    .concat()
+    let steps = [
+        write(&mut outer, image, start, &result(1, start)),
+        read(&outer, image, start, &result(1, start)),
+        write(&mut hidden, image, start, &result(2, start)),
+        write(&mut outer, image, before_hidden, &result(3, before_hidden)),
+        write(&mut outer, image, into_hidden, &result(4, into_hidden)),
+        write(&mut outer, image, start, &result(5, start)),
+        read(&outer, image, start, &result(1, start)),
+        read(&hidden, image, start, &result(2, start)),
+    ];
+    steps.into_iter().collect()
 }
 
 // A result as a cipher would hand it over. The four lowest seeds are those of the header areas.
@@ -48,32 +50,38 @@ fn result(number: u8, extent: Extent) -> Vec<u8> {
     noise(number + 3, extent.buffer().len())
 }
 
-fn write(view: &mut View, image: &mut [u8], extent: Extent, bytes: &[u8]) -> String {
-    let before = crc32(image);
-    let answer = view.write(image, extent.first, extent.count, bytes);
-    let unchanged = if crc32(image) == before { "image unchanged" } else { "image CHANGED" };
-    match answer {
-        Ok(()) => line("write", view, extent, "accepted"),
-        Err(refusal) => line("write", view, extent, unchanged) + &refused(refusal),
+fn write(view: &mut View, image: &Image, extent: Extent, bytes: &[u8]) -> Result<String, Problem> {
+    let before = checksum(image)?;
+    match view.write_extent(image.size()?, extent.first, extent.count, bytes.len() as u64) {
+        Ok(offset) => {
+            image.write_at(bytes, offset)?;
+            Ok(line("write", view, extent, "accepted"))
+        }
+        Err(refusal) => {
+            let unchanged = if checksum(image)? == before { "image unchanged" } else { "image CHANGED" };
+            Ok(line("write", view, extent, unchanged) + &refused(refusal))
+        }
     }
 }
 
-fn read(view: &View, image: &[u8], extent: Extent, expected: &[u8]) -> String {
-    let mut buffer = extent.buffer();
-    let answer = view.read(image, extent.first, extent.count, &mut buffer);
-    let same = if buffer == expected { "accepted, as written" } else { "accepted, NOT as written" };
-    match answer {
-        Ok(()) => line("read", view, extent, same),
-        Err(refusal) => line("read", view, extent, "no bytes") + &refused(refusal),
-    }
+fn checksum(image: &Image) -> Result<u32, Problem> {
+    let mut bytes = vec![0; image.size()? as usize];
+    image.read_at(&mut bytes, 0)?;
+    Ok(crc32(&bytes))
+}
+
+fn read(view: &View, image: &Image, extent: Extent, expected: &[u8]) -> Result<String, Problem> {
+    let same = match read_call(view, image, extent)? == expected {
+        true => "accepted, as written",
+        false => "accepted, NOT as written",
+    };
+    Ok(line("read", view, extent, same))
 }
 
 fn line(verb: &str, view: &View, extent: Extent, outcome: &str) -> String {
-    let volume = if view.layout.kind == Kind::Standard { "outer" } else { "hidden" };
-    format!("{verb:<5} {volume:<6} {extent}: {outcome}\n")
+    format!("{verb:<5} {:<6} {extent}: {outcome}\n", volume_name(view))
 }
 
 fn refused(refusal: Refusal) -> String {
-    let text = Problem::from(refusal).to_string();
-    text.lines().flat_map(|line| wrapped(line, 68)).map(|line| format!("    {line}\n")).collect()
+    wrapped(&format!("refused: {refusal}"), 68).into_iter().map(|line| format!("    {line}\n")).collect()
 }

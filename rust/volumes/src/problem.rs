@@ -1,58 +1,73 @@
-//! What can keep a command from being done.
+//! What can keep a command from being done, and how it is told.
 
 use std::fmt;
-use std::path::{Path, PathBuf};
+use std::path::Path;
 
 use ondristela::Refusal;
 
-use crate::arguments::USAGE;
+use crate::advice::advice;
+use crate::names::shown;
 
-/// Why a command was not done.
-pub enum Problem {
-    /// The command line is not understood.
-    Usage(String),
-    /// A file cannot be used.
-    File { path: PathBuf, ground: String },
-    /// The library refused a header, or a step that needs none.
-    Refused { refusal: Refusal, header: Option<PathBuf> },
+/// What the exit status tells. 0 is for a command that was done.
+#[derive(Clone, Copy)]
+enum Status {
+    Refused = 1,
+    Unusable = 2,
+}
+
+/// Why a command was not done: lines for a person, the last of them telling what to do next, and an exit status
+/// for a script.
+pub struct Problem {
+    status: Status,
+    lines: Vec<String>,
+    next: Option<String>,
 }
 
 impl Problem {
-    /// Makes a file's problem out of an error.
-    pub fn file<E: fmt::Display>(path: &Path) -> impl FnOnce(E) -> Problem + '_ {
-        move |error| Problem::File { path: path.to_owned(), ground: error.to_string() }
+    fn new(status: Status, line: String) -> Problem {
+        Problem { status, lines: vec![line], next: None }
     }
 
-    /// Makes a problem out of a header's refusal.
-    pub fn header(path: &Path) -> impl FnOnce(Refusal) -> Problem + '_ {
-        move |refusal| Problem::Refused { refusal, header: Some(path.to_owned()) }
+    /// The command line is not understood.
+    pub fn usage(ground: impl fmt::Display) -> Problem {
+        Problem::new(Status::Unusable, format!("usage: {ground}")).next("volumes help lists the commands")
+    }
+
+    /// A file cannot be used: makes its problem out of an error.
+    pub fn file<E: fmt::Display>(path: &Path) -> impl FnOnce(E) -> Problem + '_ {
+        move |error| Problem::new(Status::Unusable, format!("file: {}: {error}", shown(path)))
+    }
+
+    /// The library refused a step.
+    pub fn refused(refusal: Refusal) -> Problem {
+        Problem::new(Status::Refused, format!("refused: {refusal}")).next(advice(refusal))
+    }
+
+    /// Adds a line that tells a fact.
+    pub fn fact(mut self, line: String) -> Problem {
+        self.lines.push(line);
+        self
+    }
+
+    /// Says what to do next.
+    pub fn next(self, sentence: &str) -> Problem {
+        Problem { next: Some(sentence.to_string()), ..self }
     }
 
     pub fn exit_status(&self) -> u8 {
-        match self {
-            Problem::Refused { .. } => 1,
-            Problem::Usage(_) | Problem::File { .. } => 2,
-        }
+        self.status as u8
     }
 }
 
 impl From<Refusal> for Problem {
     fn from(refusal: Refusal) -> Problem {
-        Problem::Refused { refusal, header: None }
+        Problem::refused(refusal)
     }
 }
 
 impl fmt::Display for Problem {
     fn fmt(&self, formatter: &mut fmt::Formatter<'_>) -> fmt::Result {
-        match self {
-            Problem::Usage(ground) => {
-                write!(formatter, "usage: {ground}\n\n{USAGE}")
-            }
-            Problem::File { path, ground } => writeln!(formatter, "file: {}: {ground}", path.display()),
-            Problem::Refused { refusal, header } => {
-                writeln!(formatter, "refused: {refusal}")?;
-                header.iter().try_for_each(|path| writeln!(formatter, "header: {}", path.display()))
-            }
-        }
+        self.lines.iter().try_for_each(|line| writeln!(formatter, "{line}"))?;
+        self.next.iter().try_for_each(|sentence| writeln!(formatter, "next: {sentence}"))
     }
 }

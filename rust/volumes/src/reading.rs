@@ -1,42 +1,41 @@
 //! Copies a volume's sectors into a file.
 
-use std::fs::{self, File, OpenOptions};
-use std::io::{self, Write};
 use std::path::Path;
 
 use ondristela::View;
 
 use crate::arguments::{Files, Volume};
 use crate::extent::Extent;
-use crate::mapping::Mapping;
+use crate::image::Image;
+use crate::judging::{judge_read, refused, sectors};
+use crate::names::shown;
 use crate::problem::Problem;
+use crate::target::Target;
 use crate::volumes::Volumes;
 
-/// Copies an extent into a new file. A file that is there already is left alone: it might be the image.
+/// Copies an extent into a new file. A read that is refused makes no file.
 pub fn read(files: &Files, volume: Volume, extent: Extent, path: &Path) -> Result<String, Problem> {
-    let image = Mapping::open(&files.image).map_err(Problem::file(&files.image))?;
-    let view = Volumes::open(files, image.bytes())?.into_view(volume);
-    // A read of no sector at the extent's end is refused 16 exactly where the extent reaches past the
-    // volume's end, however many calls it takes. So a read that is refused makes no file.
-    view.read(image.bytes(), extent.end(), 0, &mut [])?;
-    let mut target = create(path).map_err(Problem::file(path))?;
-    if let Err(problem) = copy(&view, image.bytes(), extent, &mut target, path) {
-        // Half a copy must not be taken for a whole one.
-        fs::remove_file(path).map_err(Problem::file(path))?;
-        return Err(problem);
-    }
-    Ok(format!("read {} {extent}, into {}\n", volume.name(), path.display()))
+    let image = Image::to_read(&files.image)?;
+    let view = Volumes::open(files, &image)?.into_view(volume)?;
+    judge_read(&view, &image, extent)?;
+    copy(&view, &image, extent, Target::open(path)?)?;
+    Ok(format!("read {} {extent}, into {}\n", volume.name(), shown(path)))
 }
 
-fn create(path: &Path) -> io::Result<File> {
-    OpenOptions::new().write(true).create_new(true).open(path)
-}
-
-fn copy(view: &View, image: &[u8], extent: Extent, target: &mut File, path: &Path) -> Result<(), Problem> {
+fn copy(view: &View, image: &Image, extent: Extent, mut target: Target) -> Result<(), Problem> {
     for call in extent.calls() {
-        let mut buffer = call.buffer();
-        view.read(image, call.first, call.count, &mut buffer)?;
-        target.write_all(&buffer).map_err(Problem::file(path))?;
+        target.write(&read_call(view, image, call)?)?;
     }
-    target.sync_all().map_err(Problem::file(path))
+    target.finish()
+}
+
+/// The bytes of an extent that one call takes.
+pub fn read_call(view: &View, image: &Image, call: Extent) -> Result<Vec<u8>, Problem> {
+    let mut buffer = call.buffer();
+    let offset = view
+        .read_extent(image.size()?, call.first, call.count, buffer.len() as u64)
+        .map_err(|refusal| refused(refusal, view, image, call))?;
+    let unread = |problem: Problem| problem.fact(format!("not read: {}", sectors(view, call)));
+    image.read_at(&mut buffer, offset).map_err(unread)?;
+    Ok(buffer)
 }

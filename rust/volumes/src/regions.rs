@@ -1,8 +1,11 @@
-//! What the parts of a disk with an outer and a hidden volume are for.
+//! What the parts of a disk with volumes are for.
 
 use ondristela::{Layout, Location, Refusal};
 
 use crate::thousands::thousands;
+
+/// Each header lies at the start of an area of so many bytes.
+pub const HEADER_AREA_SIZE: u64 = 65_536;
 
 /// The use of a region.
 #[derive(Clone, Copy, PartialEq)]
@@ -11,34 +14,58 @@ pub enum Use {
     Outer,
     Hidden,
     Unused,
+    Unknown,
 }
 
 /// A range of the disk's bytes that has one use.
 pub struct Region {
     pub name: &'static str,
     pub used: Use,
+    /// Whether it lies in the outer volume, as the hidden one does.
+    pub in_outer: bool,
     pub start: u64,
     pub end: u64,
 }
 
 /// The regions from the disk's start to its end. Those without a byte are left out.
-pub fn regions(outer: &Layout, hidden: &Layout) -> Result<Vec<Region>, Refusal> {
+pub fn regions(
+    host_size: u64,
+    outer: Option<Layout>,
+    hidden: Option<Layout>,
+) -> Result<Vec<Region>, Refusal> {
+    let starts = starts(host_size, outer, hidden)?;
+    let ends = starts.iter().skip(1).map(|next| next.0).chain([host_size]);
+    let in_outer = |used| outer.is_some() && matches!(used, Use::Outer | Use::Hidden);
+    let region = |(&(start, used, name), end): (&Start, u64)| {
+        let in_outer = in_outer(used);
+        Region { name, used, in_outer, start, end }
+    };
+    Ok(starts.iter().zip(ends).map(region).filter(|region| region.start < region.end).collect())
+}
+
+type Start = (u64, Use, &'static str);
+
+// Where each region begins. Without an outer volume nothing is known of what lies around the hidden one.
+fn starts(host_size: u64, outer: Option<Layout>, hidden: Option<Layout>) -> Result<Vec<Start>, Refusal> {
     let [header, hidden_header, backup, hidden_backup] =
-        Location::ALL.map(|location| location.offset(outer.host_size));
-    let starts = [
+        Location::ALL.map(|location| location.offset(host_size));
+    let mut starts = vec![
         (header?, Use::Headers, "outer header area"),
         (hidden_header?, Use::Headers, "hidden header area"),
-        (outer.data_start, Use::Outer, "outer data"),
-        (hidden.data_start, Use::Hidden, "hidden data"),
-        (hidden.data_start + hidden.data_size, Use::Outer, "outer data"),
-        (outer.data_start + outer.data_size, Use::Unused, "unused"),
-        (backup?, Use::Headers, "outer backup area"),
-        (hidden_backup?, Use::Headers, "hidden backup area"),
     ];
-    let ends = starts.iter().skip(1).map(|next| next.0).chain([outer.host_size]);
-    let regions =
-        starts.iter().zip(ends).map(|(&(start, used, name), end)| Region { name, used, start, end });
-    Ok(regions.filter(|region| region.start < region.end).collect())
+    let around = |start| match outer {
+        Some(_) => (start, Use::Outer, "outer data"),
+        None => (start, Use::Unknown, "not known"),
+    };
+    starts.push(around(outer.map_or(hidden_header? + HEADER_AREA_SIZE, |outer| outer.data_start)));
+    if let Some(hidden) = hidden {
+        starts.push((hidden.data_start, Use::Hidden, "hidden data"));
+        starts.push(around(hidden.data_start + hidden.data_size));
+    }
+    starts.extend(outer.map(|outer| (outer.data_start + outer.data_size, Use::Unused, "unused")));
+    starts.push((backup?, Use::Headers, "outer backup area"));
+    starts.push((hidden_backup?, Use::Headers, "hidden backup area"));
+    Ok(starts)
 }
 
 /// The regions' names and bytes, numbered from 1.

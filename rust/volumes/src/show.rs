@@ -2,44 +2,67 @@
 
 use std::path::Path;
 
-use ondristela::{Kind, Layout, Magic, Refusal};
+use ondristela::{Kind, Layout, Magic, Refusal, View};
 
+use crate::names::shown;
 use crate::picture::picture;
+use crate::problem::Problem;
 use crate::regions::{list, regions};
+use crate::sizes::{short, size};
 use crate::thousands::thousands;
 use crate::volumes::Volumes;
 
 /// Where the volumes of an image lie.
-pub fn show(image: &Path, volumes: &Volumes) -> Result<String, Refusal> {
-    let name = image.file_name().unwrap_or(image.as_os_str()).to_string_lossy();
-    let (outer, hidden) = (&volumes.outer.layout, &volumes.hidden.layout);
-    let host_size = thousands(outer.host_size);
-    let regions = regions(outer, hidden)?;
+pub fn show(image: &Path, host_size: u64, volumes: &Volumes) -> Result<String, Problem> {
+    let name = shown(Path::new(image.file_name().unwrap_or(image.as_os_str())));
+    let layout = |view: &Option<View>| view.as_ref().map(|view| view.layout);
+    let regions = regions(host_size, layout(&volumes.outer), layout(&volumes.hidden))?;
     let drawn = picture(&regions) + &list(&regions);
-    Ok(format!("{name}, {host_size} bytes\n{}\n{drawn}", table(outer, hidden)?))
+    Ok(format!("{name}, {}\n{}\n{drawn}", size(host_size), table(volumes)?))
 }
 
-fn table(outer: &Layout, hidden: &Layout) -> Result<String, Refusal> {
-    let rows: Vec<_> = facts(outer)?.into_iter().zip(facts(hidden)?).collect();
-    let width = rows.iter().flat_map(|(outer, hidden)| [outer.1.len(), hidden.1.len()]).max().unwrap_or(0);
-    let row =
-        |label: &str, outer: &str, hidden: &str| format!("{label:<23}{outer:>width$}  {hidden:>width$}\n");
-    let lines = rows.iter().map(|(outer, hidden)| row(outer.0, &outer.1, &hidden.1));
-    Ok([row("", "outer", "hidden")].into_iter().chain(lines).collect())
+// A column of labels and one for each volume.
+fn table(volumes: &Volumes) -> Result<String, Refusal> {
+    let mut columns = Vec::new();
+    for (name, view) in [("outer", &volumes.outer), ("hidden", &volumes.hidden)] {
+        columns.extend(view.iter().map(|view| facts(name, &view.layout)));
+    }
+    let columns = columns.into_iter().collect::<Result<Vec<_>, Refusal>>()?;
+    let width = columns.iter().flatten().map(|fact| fact.len()).max().unwrap_or(0);
+    let row = |(index, label): (usize, &&str)| {
+        let cells: Vec<_> = columns.iter().map(|column| format!("{:>width$}", column[index])).collect();
+        format!("{label:<23}{}\n", cells.join("  "))
+    };
+    Ok(LABELS.iter().enumerate().map(row).collect())
 }
 
-// What is told of a volume, each with its label.
-fn facts(layout: &Layout) -> Result<[(&'static str, String); 8], Refusal> {
+const LABELS: [&str; 10] = [
+    "",
+    "kind",
+    "magic",
+    "version",
+    "size",
+    "data area, first byte",
+    "data area, last byte",
+    "sectors",
+    "first host sector",
+    "last host sector",
+];
+
+// What is told of a volume, in the order of the labels.
+fn facts(name: &str, layout: &Layout) -> Result<[String; 10], Refusal> {
     let last = layout.sector_count() - 1;
     Ok([
-        ("kind", kind_name(layout.kind).to_string()),
-        ("magic", magic_name(layout.magic).to_string()),
-        ("version", layout.version.to_string()),
-        ("data area, first byte", thousands(layout.data_start)),
-        ("data area, last byte", thousands(layout.data_start + layout.data_size - 1)),
-        ("sectors", thousands(layout.sector_count())),
-        ("first host sector", thousands(layout.host_sector(0)?)),
-        ("last host sector", thousands(layout.host_sector(last)?)),
+        name.to_string(),
+        kind_name(layout.kind).to_string(),
+        magic_name(layout.magic).to_string(),
+        layout.version.to_string(),
+        short(layout.data_size),
+        thousands(layout.data_start),
+        thousands(layout.data_start + layout.data_size - 1),
+        thousands(layout.sector_count()),
+        thousands(layout.host_sector(0)?),
+        thousands(layout.host_sector(last)?),
     ])
 }
 
