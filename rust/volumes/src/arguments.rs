@@ -144,14 +144,14 @@ mod tests {
     #[test]
     fn options_stand_anywhere() {
         let lines = [
-            "read --outer=o --hidden h disk outer 1 2 copy",
-            "--hidden h read disk outer 1 2 copy --outer o",
-            "read --outer o --hidden=h -- disk outer 1 2 copy",
+            "read --outer=o --hidden h disk outer 1 2 -",
+            "--hidden h read disk outer 1 2 - --outer o",
+            "read --outer o --hidden=h -- disk outer 1 2 -",
         ];
         for line in lines {
             let Ok(Command::Read { files, extent, target, .. }) = parsed(line) else { panic!("{line}") };
             assert_eq!((files.outer_header, files.hidden_header), (Some("o".into()), Some("h".into())));
-            assert_eq!((extent.first, extent.count, target), (1, 2, "copy".into()));
+            assert_eq!((extent.first, extent.count, target), (1, 2, "-".into()));
         }
     }
 

@@ -18,7 +18,7 @@ pub fn judge_read(view: &View, image: &Image, extent: Extent) -> Result<(), Prob
 
 /// Whether a write may end where this extent does. A write of no sector at its end is refused 16 exactly where
 /// the extent reaches past the volume's end, 17 where the lock is closed, and never 18.
-fn judge_end(view: &mut View, image: &Image, extent: Extent) -> Result<(), Problem> {
+pub fn judge_end(view: &mut View, image: &Image, extent: Extent) -> Result<(), Problem> {
     let answer = view.write_extent(image.size()?, extent.end(), 0, 0);
     answer.map_err(|refusal| refused(refusal, view, image, extent))?;
     Ok(())

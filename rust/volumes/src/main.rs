@@ -82,5 +82,9 @@ fn show_files(files: &Files) -> Result<String, Problem> {
 }
 
 fn print(report: &str) -> Result<(), Problem> {
-    io::stdout().write_all(report.as_bytes()).map_err(Problem::file(Path::new("standard output")))
+    let mut output = io::stdout();
+    output.write_all(report.as_bytes()).and_then(|()| output.flush()).map_err(|error| {
+        let problem = Problem::file(Path::new("standard output"))(error);
+        problem.fact("the command was done; only its report could not be printed".to_string())
+    })
 }

@@ -2,6 +2,9 @@
 
 use std::path::Path;
 
+/// Standard input or standard output, where a file's name is asked for.
+pub const STREAM: &str = "-";
+
 /// A path as text. Control characters, bytes that are no text and backslashes are shown escaped, so that a
 /// name can do nothing to a terminal.
 pub fn shown(path: &Path) -> String {

@@ -1,6 +1,6 @@
 //! New files whose names nobody else uses.
 
-use std::fs::{File, OpenOptions};
+use std::fs::{self, File, OpenOptions};
 use std::io;
 use std::path::{Path, PathBuf};
 use std::process;
@@ -17,4 +17,11 @@ pub fn create_in(folder: &Path) -> io::Result<(PathBuf, File)> {
         }
     }
     unreachable!("the numbers do not end")
+}
+
+/// Makes a file without a name, which is gone once it is closed.
+pub fn create_nameless(folder: &Path) -> io::Result<File> {
+    let (path, file) = create_in(folder)?;
+    fs::remove_file(path)?;
+    Ok(file)
 }

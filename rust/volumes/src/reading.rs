@@ -8,18 +8,25 @@ use crate::arguments::{Files, Volume};
 use crate::extent::Extent;
 use crate::image::Image;
 use crate::judging::{judge_read, refused, sectors};
-use crate::names::shown;
+use crate::names::{shown, STREAM};
+use crate::notes::note;
 use crate::problem::Problem;
 use crate::target::Target;
 use crate::volumes::Volumes;
 
-/// Copies an extent into a new file. A read that is refused makes no file.
+/// Copies an extent into a new file, or to standard output. A read that is refused makes no file.
 pub fn read(files: &Files, volume: Volume, extent: Extent, path: &Path) -> Result<String, Problem> {
     let image = Image::to_read(&files.image)?;
     let view = Volumes::open(files, &image)?.into_view(volume)?;
     judge_read(&view, &image, extent)?;
+    let to_file = path != Path::new(STREAM);
     copy(&view, &image, extent, Target::open(path)?)?;
-    Ok(format!("read {} {extent}, into {}\n", volume.name(), shown(path)))
+    let report = format!("read {} {extent}, ", volume.name());
+    if to_file {
+        return Ok(format!("{report}into {}\n", shown(path)));
+    }
+    note(format_args!("{report}to standard output"));
+    Ok(String::new())
 }
 
 fn copy(view: &View, image: &Image, extent: Extent, mut target: Target) -> Result<(), Problem> {

@@ -1,32 +1,51 @@
-//! The new file of a read, which has its name only once it is whole.
+//! Where a read puts its bytes: a new file, which has its name only once it is whole, or standard output.
 
 use std::fs::{self, File};
 use std::io::{self, Write};
+use std::os::fd::AsFd;
 use std::path::{Path, PathBuf};
 
+use crate::names::STREAM;
 use crate::new_file::create_in;
 use crate::problem::Problem;
 
-pub struct Target {
-    path: PathBuf,
-    partial: Partial,
+pub enum Target {
+    Output(File),
+    NewFile { path: PathBuf, partial: Partial },
 }
 
 impl Target {
     /// Opens the target. A file that is there already is left alone: it might be the image.
     pub fn open(path: &Path) -> Result<Target, Problem> {
+        if path == Path::new(STREAM) {
+            return output().map(Target::Output).map_err(Problem::file(path));
+        }
         let partial = absent(path).and_then(|()| Partial::beside(path)).map_err(Problem::file(path))?;
-        Ok(Target { path: path.to_owned(), partial })
+        Ok(Target::NewFile { path: path.to_owned(), partial })
     }
 
     pub fn write(&mut self, bytes: &[u8]) -> Result<(), Problem> {
-        self.partial.file.write_all(bytes).map_err(Problem::file(&self.path))
+        match self {
+            Target::Output(output) => {
+                output.write_all(bytes).map_err(Problem::file(Path::new("standard output")))
+            }
+            Target::NewFile { path, partial } => partial.file.write_all(bytes).map_err(Problem::file(path)),
+        }
     }
 
     /// Gives the whole file its name, once its bytes are on the disk.
     pub fn finish(self) -> Result<(), Problem> {
-        self.partial.publish(&self.path).map_err(Problem::file(&self.path))
+        match self {
+            Target::Output(_) => Ok(()),
+            Target::NewFile { path, partial } => partial.publish(&path).map_err(Problem::file(&path)),
+        }
     }
+}
+
+// Not through `io::stdout`, which would look for line ends in the sectors.
+fn output() -> io::Result<File> {
+    let output = io::stdout();
+    output.as_fd().try_clone_to_owned().map(File::from)
 }
 
 fn absent(path: &Path) -> io::Result<()> {
@@ -39,7 +58,7 @@ fn absent(path: &Path) -> io::Result<()> {
 
 /// A file that is not whole yet, under a name of its own. Dropped, it is removed, so that half a copy is never
 /// taken for a whole one.
-struct Partial {
+pub struct Partial {
     path: PathBuf,
     file: File,
 }

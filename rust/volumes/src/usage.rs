@@ -27,6 +27,9 @@ that would touch the hidden one are refused. With --outer alone nothing
 protects a hidden volume.
 
 VOLUME is outer or hidden; its sectors count from 0.
+FILE - is standard output or standard input. Standard input is copied to a
+nameless file in $TMPDIR (or /tmp) first, since all of a write is judged
+before its first byte is written.
 Sectors are copied as they stand, enciphered.
 
 Exit status:

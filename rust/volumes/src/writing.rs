@@ -7,18 +7,22 @@ use ondristela::{Kind, View};
 use crate::arguments::{Files, Volume};
 use crate::extent::Extent;
 use crate::image::Image;
-use crate::judging::{judge_write, refused};
+use crate::judging::{judge_end, judge_write, refused};
+use crate::names::STREAM;
 use crate::notes::note;
 use crate::problem::Problem;
 use crate::source::Source;
 use crate::volumes::Volumes;
 
-/// Copies a whole file into a volume, from sector `first` on. A write that is refused
+/// Copies a whole file, or standard input, into a volume, from sector `first` on. A write that is refused
 /// changes nothing.
 pub fn write(files: &Files, volume: Volume, first: u64, path: &Path) -> Result<String, Problem> {
     let image = Image::to_write(&files.image)?;
     let mut view = Volumes::open(files, &image)?.into_view(volume)?;
-    let source = Source::open(path, first)?;
+    let source = match path == Path::new(STREAM) {
+        true => Source::spool(first, |extent| judge_end(&mut view, &image, extent))?,
+        false => Source::open(path, first)?,
+    };
     judge_write(&mut view, &image, source.extent)?;
     if view.layout.kind == Kind::Standard && view.protected.is_none() {
         note(
