@@ -13,6 +13,7 @@ use crate::names::shown;
 enum Status {
     Refused = 1,
     Unusable = 2,
+    Stopped = 3,
 }
 
 /// Why a command was not done: lines for a person, the last of them telling what to do next, and an exit status
@@ -41,6 +42,16 @@ impl Problem {
     /// The library refused a step.
     pub fn refused(refusal: Refusal) -> Problem {
         Problem::new(Status::Refused, format!("refused: {refusal}")).next(advice(refusal))
+    }
+
+    /// A signal asked the program to end.
+    pub fn interrupted() -> Problem {
+        Problem::new(Status::Stopped, "stopped: by a signal".to_string())
+    }
+
+    /// The same problem, met after the work had begun.
+    pub fn part_way(self) -> Problem {
+        Problem { status: Status::Stopped, ..self }
     }
 
     /// Adds a line that tells a fact.

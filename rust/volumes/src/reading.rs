@@ -11,6 +11,7 @@ use crate::judging::{judge_read, refused, sectors};
 use crate::names::{shown, STREAM};
 use crate::notes::note;
 use crate::problem::Problem;
+use crate::system;
 use crate::target::Target;
 use crate::volumes::Volumes;
 
@@ -20,6 +21,10 @@ pub fn read(files: &Files, volume: Volume, extent: Extent, path: &Path) -> Resul
     let view = Volumes::open(files, &image)?.into_view(volume)?;
     judge_read(&view, &image, extent)?;
     let to_file = path != Path::new(STREAM);
+    if to_file {
+        // A signal would leave half a file; a pipe has an end by itself.
+        system::catch_signals();
+    }
     copy(&view, &image, extent, Target::open(path)?)?;
     let report = format!("read {} {extent}, ", volume.name());
     if to_file {
@@ -31,6 +36,9 @@ pub fn read(files: &Files, volume: Volume, extent: Extent, path: &Path) -> Resul
 
 fn copy(view: &View, image: &Image, extent: Extent, mut target: Target) -> Result<(), Problem> {
     for call in extent.calls() {
+        if system::caught() {
+            return Err(Problem::interrupted().fact("the copy, which was not whole, is removed".to_string()));
+        }
         target.write(&read_call(view, image, call)?)?;
     }
     target.finish()

@@ -1,9 +1,10 @@
-//! What the standard library lacks of the system: advisory locks.
+//! What the standard library lacks of the system: advisory locks, and signals that only leave a mark.
 
 use std::ffi::c_int;
 use std::fs::File;
 use std::io;
 use std::os::fd::AsRawFd;
+use std::sync::atomic::{AtomicBool, Ordering};
 
 #[cfg(not(all(target_os = "linux", target_pointer_width = "64")))]
 compile_error!("the types and constants of system.rs are those of 64-bit Linux");
@@ -16,8 +17,14 @@ const LOCK_SH: c_int = 1;
 const LOCK_EX: c_int = 2;
 const LOCK_NB: c_int = 4;
 
+const SIGHUP: c_int = 1;
+const SIGINT: c_int = 2;
+const SIGTERM: c_int = 15;
+const SIG_IGN: usize = 1;
+
 extern "C" {
     fn flock(fd: c_int, operation: c_int) -> c_int;
+    fn signal(number: c_int, handler: usize) -> usize;
 }
 
 /// Locks a file against other copies of this program, and all programs that ask for such locks: alone, or
@@ -31,4 +38,28 @@ pub fn lock(file: &File, alone: bool) -> io::Result<()> {
         0 => Ok(()),
         _ => Err(io::Error::last_os_error()),
     }
+}
+
+static CAUGHT: AtomicBool = AtomicBool::new(false);
+
+extern "C" fn catch(_number: c_int) {
+    CAUGHT.store(true, Ordering::Relaxed);
+}
+
+/// From now on a hang-up, Ctrl-C or a request to end does not end the program, but is told by `caught`. One
+/// that the program was started to ignore, as `nohup` has it, stays ignored.
+pub fn catch_signals() {
+    for number in [SIGHUP, SIGINT, SIGTERM] {
+        // SAFETY: the handler does nothing but store into an atomic, which a handler may do at any time.
+        let earlier = unsafe { signal(number, catch as extern "C" fn(c_int) as usize) };
+        if earlier == SIG_IGN {
+            // SAFETY: this only restores what was set before.
+            unsafe { signal(number, SIG_IGN) };
+        }
+    }
+}
+
+/// Whether a signal came since `catch_signals`.
+pub fn caught() -> bool {
+    CAUGHT.load(Ordering::Relaxed)
 }

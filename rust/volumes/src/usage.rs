@@ -36,4 +36,6 @@ Exit status:
     0  done
     1  refused; nothing was changed
     2  bad usage, or a file that cannot be used
+    3  stopped part-way, by a signal or by an error while writing; the
+       message says which sectors were written
 ";

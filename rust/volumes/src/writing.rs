@@ -7,11 +7,12 @@ use ondristela::{Kind, View};
 use crate::arguments::{Files, Volume};
 use crate::extent::Extent;
 use crate::image::Image;
-use crate::judging::{judge_end, judge_write, refused};
+use crate::judging::{judge_end, judge_write, refused, sectors};
 use crate::names::STREAM;
 use crate::notes::note;
 use crate::problem::Problem;
 use crate::source::Source;
+use crate::system;
 use crate::volumes::Volumes;
 
 /// Copies a whole file, or standard input, into a volume, from sector `first` on. A write that is refused
@@ -29,20 +30,53 @@ pub fn write(files: &Files, volume: Volume, first: u64, path: &Path) -> Result<S
             "note: no --hidden header is given, so nothing is protected: a hidden volume may be overwritten",
         );
     }
-    copy(&mut view, &image, &source)?;
+    copy_and_sync(&mut view, &image, &source)?;
     Ok(format!("wrote {} {}, from {}\n", volume.name(), source.extent, source.name()))
 }
 
-fn copy(view: &mut View, image: &Image, source: &Source) -> Result<(), Problem> {
-    for call in source.extent.calls() {
-        write_call(view, image, call, &source.bytes(call)?)?;
+// Signals are caught from here on, so that none ends the program within a call.
+fn copy_and_sync(view: &mut View, image: &Image, source: &Source) -> Result<(), Problem> {
+    system::catch_signals();
+    let copied = copy(view, image, source);
+    let uncertain = format!("uncertain: {}, which may not be on the disk", sectors(view, source.extent));
+    match (copied, image.sync()) {
+        (copied, Ok(())) => copied,
+        (Ok(()), Err(problem)) => Err(problem.part_way().fact(uncertain)),
+        (Err(problem), Err(_)) => Err(problem.fact(uncertain)),
     }
-    image.sync()
+}
+
+fn copy(view: &mut View, image: &Image, source: &Source) -> Result<(), Problem> {
+    let extent = source.extent;
+    for call in extent.calls() {
+        let written = Extent { count: call.first - extent.first, ..extent };
+        copy_call(view, image, source, call).map_err(|problem| part_way(problem, view, written, extent))?;
+    }
+    // Once more at the end: the image may have been cut short during the last call.
+    judge_end(view, image, extent).map_err(|problem| part_way(problem, view, extent, extent))
+}
+
+fn copy_call(view: &mut View, image: &Image, source: &Source, call: Extent) -> Result<(), Problem> {
+    if system::caught() {
+        return Err(Problem::interrupted());
+    }
+    write_call(view, image, call, &source.bytes(call)?)
 }
 
 // Writes the bytes to an extent that one call takes.
 fn write_call(view: &mut View, image: &Image, call: Extent, bytes: &[u8]) -> Result<(), Problem> {
     let answer = view.write_extent(image.size()?, call.first, call.count, bytes.len() as u64);
     let offset = answer.map_err(|refusal| refused(refusal, view, image, call))?;
-    image.write_at(bytes, offset)
+    image.write_at(bytes, offset).map_err(|problem| {
+        problem.fact(format!("uncertain: {}, which may be written in part", sectors(view, call)))
+    })
+}
+
+fn part_way(problem: Problem, view: &View, written: Extent, all: Extent) -> Problem {
+    let all = sectors(view, all);
+    let fact = match written.count {
+        0 => format!("written: none of {all}"),
+        _ => format!("written: {}, of {all}", sectors(view, written)),
+    };
+    problem.part_way().fact(fact).next("the same command, given again, writes all of them once more")
 }
