@@ -19,15 +19,15 @@ if device=$(losetup --find --show disk.img 2>/dev/null); then
     expect 'a write beside another recorder of a device' 2 'another recorder' \
         flock "$device" "$program" write "$device" "${headers[@]}" hidden 5 sector
     expect 'a write into the protected range of a device' 1 '(refusal 18)' on_device write outer 1024 sector
-    # A file system on it is mounted.
+    # A file system on it is mounted; the headers are passed over, so that nothing else is in the way.
     mkdir mounted
     if mkfs.ext4 -q -F "$device" 2>/dev/null && mount -o ro "$device" mounted 2>/dev/null; then
         undo+=("umount $work/devices/mounted")
         cp disk.img expected.img
         expect 'a write to a mounted device' 2 'in use: it is mounted' \
-            on_device write outer 0 sector
+            on_device write --risk-wrong-disk outer 0 sector
         same 'a write to a mounted device' disk.img expected.img
-        expect 'show of a mounted device' 0 '1.0 MiB' on_device show
+        expect 'show of a mounted device' 0 'not on it' on_device show --risk-wrong-disk
     else
         skipped 'a mounted device (no file system can be made or mounted)'
     fi

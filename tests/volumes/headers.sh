@@ -1,4 +1,4 @@
-# Headers and images that are refused.
+# Headers and images that are refused, and headers that are not the image's.
 # shellcheck shell=bash disable=SC2154
 
 begin headers
@@ -26,3 +26,34 @@ expect 'an image of odd size' 1 '(refusal 3)' show odd.img outer.header hidden.h
 says 'its size' 'image: odd.img, 976.6 KiB (1,000,000 bytes)'
 expect 'an empty image' 2 'empty.img: empty' show empty.img outer.header hidden.header
 expect 'a missing image' 2 'missing.img' show missing.img outer.header hidden.header
+
+# A header belongs to an image that has its salt, where the header lies or where its backup does.
+header 'header(salt=salt_at(917_504))' >backup.header
+header 'hidden(salt=salt_at(983_040))' >hidden_backup.header
+expect 'main headers' 0 'header                      main       main' show disk.img outer.header hidden.header
+expect 'backups' 0 'header                    backup     backup' show disk.img backup.header hidden_backup.header
+header 'header(salt=salt_at(65_536))' >hidden_salt.header
+expect 'the hidden salt in an outer header' 1 "does not have this header's salt" \
+    show disk.img hidden_salt.header hidden.header
+says 'its header' 'header: hidden_salt.header'
+header 'hidden()' >strange.header
+expect 'a strange hidden header' 1 'header: strange.header' show disk.img outer.header strange.header
+
+# Another disk of the same size; the disk in the place of its partition, and a piece of the partition.
+random 1048576 >other.img
+cat other.img disk.img >whole.img
+head -c 1048576 <(tail -c +4097 disk.img; random 4096) >shifted.img
+random 512 >sector
+for image in other.img whole.img shifted.img; do
+    cp "$image" kept
+    expect "show of $image" 1 'wrong disk or the wrong header' show "$image" outer.header hidden.header
+    says "$image" 'the whole disk is given instead of the partition'
+    says "$image" "image: $image"
+    expect "a read of $image" 1 'wrong disk' volumes read "$image" "${headers[@]}" outer 0 1 copy
+    expect "a write to $image" 1 'wrong disk' volumes write "$image" "${headers[@]}" hidden 0 sector
+    same "$image" "$image" kept
+done
+expect 'the risk taken' 0 'warning: the image does not have the salt of outer.header' \
+    volumes write other.img "${headers[@]}" --risk-wrong-disk outer 0 sector
+cp other.img kept
+expect 'what the risk leads to' 0 'not on it' volumes show other.img "${headers[@]}" --risk-wrong-disk

@@ -28,6 +28,8 @@ pub struct Files {
     pub image: PathBuf,
     pub outer_header: Option<PathBuf>,
     pub hidden_header: Option<PathBuf>,
+    /// Whether headers are taken that the image does not have.
+    pub risk_wrong_disk: bool,
 }
 
 impl Files {
@@ -100,7 +102,12 @@ fn files(image: &OsStr, options: Options) -> Result<Files, Problem> {
     if options.outer.is_none() && options.hidden.is_none() {
         return Err(Problem::usage("no header: name one by --outer or --hidden, or both"));
     }
-    Ok(Files { image: image.into(), outer_header: options.outer, hidden_header: options.hidden })
+    Ok(Files {
+        image: image.into(),
+        outer_header: options.outer,
+        hidden_header: options.hidden,
+        risk_wrong_disk: options.risk_wrong_disk,
+    })
 }
 
 // The volume to work on is one whose header is given.
@@ -163,6 +170,7 @@ mod tests {
             ("show disk --outer", "--outer needs a file"),
             ("show disk --outer a --outer b", "--outer is given twice"),
             ("show disk --inner a", "\"--inner\" is no option"),
+            ("show disk --risk-wrong-disk=yes --outer a", "is no option"),
             ("show disk more --outer a", "\"show\" with 2 words"),
             ("sample folder --outer a", "takes no headers"),
             ("read disk inner 0 1 copy --outer a", "VOLUME is outer or hidden"),

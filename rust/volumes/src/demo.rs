@@ -12,7 +12,7 @@ use crate::problem::Problem;
 use crate::reading::read_call;
 use crate::sample;
 use crate::show::show;
-use crate::volumes::Volumes;
+use crate::volumes::{Opened, Volumes};
 use crate::wrapping::wrapped;
 
 /// Makes the sample, shows it, then writes and reads both volumes, refusals included. Tells what happened.
@@ -28,7 +28,8 @@ pub fn run(folder: &Path) -> Result<String, Problem> {
 }
 
 // The outer writes are worked cases of docs/RULES.md, M protecting N: outer sector 1,023 is the last before N.
-fn tour(mut outer: View, mut hidden: View, image: &Image) -> Result<String, Problem> {
+fn tour(outer: Opened, hidden: Opened, image: &Image) -> Result<String, Problem> {
+    let (mut outer, mut hidden) = (outer.view, hidden.view);
     let start = Extent { first: 0, count: 1 };
     let before_hidden = Extent { first: 1_023, count: 1 };
     let into_hidden = Extent { first: 1_023, count: 2 };

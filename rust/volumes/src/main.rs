@@ -22,6 +22,7 @@ mod picture;
 mod problem;
 mod reading;
 mod regions;
+mod salts;
 mod sample;
 mod show;
 mod sizes;

@@ -13,12 +13,13 @@ pub struct Options {
     pub version: bool,
     pub outer: Option<PathBuf>,
     pub hidden: Option<PathBuf>,
+    pub risk_wrong_disk: bool,
 }
 
 impl Options {
     /// Whether there is one that only a command on an image takes.
     pub fn for_image(&self) -> bool {
-        self.outer.is_some() || self.hidden.is_some()
+        self.outer.is_some() || self.hidden.is_some() || self.risk_wrong_disk
     }
 }
 
@@ -51,6 +52,7 @@ fn take<'a>(
     match (name, value) {
         (b"-h" | b"--help", None) => options.help = true,
         (b"--version", None) => options.version = true,
+        (b"--risk-wrong-disk", None) => options.risk_wrong_disk = true,
         (b"--outer", value) => set(&mut options.outer, "--outer", value.or_else(|| rest.next()))?,
         (b"--hidden", value) => set(&mut options.hidden, "--hidden", value.or_else(|| rest.next()))?,
         _ => return Err(Problem::usage(format!("{word:?} is no option"))),

@@ -44,6 +44,11 @@ impl Problem {
         Problem::new(Status::Refused, format!("refused: {refusal}")).next(advice(refusal))
     }
 
+    /// The program itself refuses, before it does anything.
+    pub fn declined(ground: &str) -> Problem {
+        Problem::new(Status::Refused, format!("refused: {ground}"))
+    }
+
     /// A signal asked the program to end.
     pub fn interrupted() -> Problem {
         Problem::new(Status::Stopped, "stopped: by a signal".to_string())

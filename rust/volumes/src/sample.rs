@@ -29,7 +29,12 @@ pub fn make(folder: &Path) -> Result<Files, Problem> {
     make_file(&image, again, |file| fill_image(file, &areas))?;
     make_file(&outer_header, again, |file| file.write_all(&outer))?;
     make_file(&hidden_header, again, |file| file.write_all(&hidden))?;
-    Ok(Files { image, outer_header: Some(outer_header), hidden_header: Some(hidden_header) })
+    Ok(Files {
+        image,
+        outer_header: Some(outer_header),
+        hidden_header: Some(hidden_header),
+        risk_wrong_disk: false,
+    })
 }
 
 /// What was made.

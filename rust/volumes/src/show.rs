@@ -2,7 +2,7 @@
 
 use std::path::Path;
 
-use ondristela::{Kind, Layout, Magic, Refusal, View};
+use ondristela::{Kind, Layout, Location, Magic, Refusal};
 
 use crate::names::shown;
 use crate::picture::picture;
@@ -10,12 +10,12 @@ use crate::problem::Problem;
 use crate::regions::{list, regions};
 use crate::sizes::{short, size};
 use crate::thousands::thousands;
-use crate::volumes::Volumes;
+use crate::volumes::{Opened, Volumes};
 
 /// Where the volumes of an image lie.
 pub fn show(image: &Path, host_size: u64, volumes: &Volumes) -> Result<String, Problem> {
     let name = shown(Path::new(image.file_name().unwrap_or(image.as_os_str())));
-    let layout = |view: &Option<View>| view.as_ref().map(|view| view.layout);
+    let layout = |opened: &Option<Opened>| opened.as_ref().map(|opened| opened.view.layout);
     let regions = regions(host_size, layout(&volumes.outer), layout(&volumes.hidden))?;
     let drawn = picture(&regions) + &list(&regions);
     Ok(format!("{name}, {}\n{}\n{drawn}", size(host_size), table(volumes)?))
@@ -24,8 +24,8 @@ pub fn show(image: &Path, host_size: u64, volumes: &Volumes) -> Result<String, P
 // A column of labels and one for each volume.
 fn table(volumes: &Volumes) -> Result<String, Refusal> {
     let mut columns = Vec::new();
-    for (name, view) in [("outer", &volumes.outer), ("hidden", &volumes.hidden)] {
-        columns.extend(view.iter().map(|view| facts(name, &view.layout)));
+    for (name, opened) in [("outer", &volumes.outer), ("hidden", &volumes.hidden)] {
+        columns.extend(opened.iter().map(|opened| facts(name, opened)));
     }
     let columns = columns.into_iter().collect::<Result<Vec<_>, Refusal>>()?;
     let width = columns.iter().flatten().map(|fact| fact.len()).max().unwrap_or(0);
@@ -36,11 +36,12 @@ fn table(volumes: &Volumes) -> Result<String, Refusal> {
     Ok(LABELS.iter().enumerate().map(row).collect())
 }
 
-const LABELS: [&str; 10] = [
+const LABELS: [&str; 11] = [
     "",
     "kind",
     "magic",
     "version",
+    "header",
     "size",
     "data area, first byte",
     "data area, last byte",
@@ -50,13 +51,15 @@ const LABELS: [&str; 10] = [
 ];
 
 // What is told of a volume, in the order of the labels.
-fn facts(name: &str, layout: &Layout) -> Result<[String; 10], Refusal> {
+fn facts(name: &str, opened: &Opened) -> Result<[String; 11], Refusal> {
+    let layout: &Layout = &opened.view.layout;
     let last = layout.sector_count() - 1;
     Ok([
         name.to_string(),
         kind_name(layout.kind).to_string(),
         magic_name(layout.magic).to_string(),
         layout.version.to_string(),
+        header_name(opened.header).to_string(),
         short(layout.data_size),
         thousands(layout.data_start),
         thousands(layout.data_start + layout.data_size - 1),
@@ -77,5 +80,13 @@ fn magic_name(magic: Magic) -> &'static str {
     match magic {
         Magic::Vera => "VERA",
         Magic::True => "TRUE",
+    }
+}
+
+fn header_name(location: Option<Location>) -> &'static str {
+    match location {
+        Some(Location::Standard | Location::Hidden) => "main",
+        Some(Location::StandardBackup | Location::HiddenBackup) => "backup",
+        None => "not on it",
     }
 }

@@ -24,7 +24,9 @@ HEADERS are deciphered headers, main ones or backups, 512 bytes each:
     --hidden FILE        the hidden volume's
 One is enough for a volume alone. With both, writes to the outer volume
 that would touch the hidden one are refused. With --outer alone nothing
-protects a hidden volume.
+protects a hidden volume. Headers whose salt is not on IMAGE are refused:
+    --risk-wrong-disk    goes on all the same; what is written then may
+                         destroy another disk's data
 
 VOLUME is outer or hidden; its sectors count from 0.
 FILE - is standard output or standard input. Standard input is copied to a

@@ -9,50 +9,77 @@ use ondristela::{open, Kind, Layout, Location, Refusal, View, HEADER_SIZE, MAX_C
 use crate::arguments::{without_header, Files, Volume};
 use crate::image::Image;
 use crate::names::shown;
+use crate::notes::note;
 use crate::problem::Problem;
+use crate::salts::{self, SALT_SIZE};
 use crate::sizes::size;
 use crate::thousands::thousands;
 
+/// A volume, and where the image has its header; nowhere, if the risk was taken.
+pub struct Opened {
+    pub view: View,
+    pub header: Option<Location>,
+}
+
 /// The volumes whose headers are given. With both, the outer one has the hidden one protected.
 pub struct Volumes {
-    pub outer: Option<View>,
-    pub hidden: Option<View>,
+    pub outer: Option<Opened>,
+    pub hidden: Option<Opened>,
 }
 
 impl Volumes {
-    /// Opens the volumes against the image's size.
+    /// Opens the volumes against the image's size, once their headers are known to be this image's.
     pub fn open(files: &Files, image: &Image) -> Result<Volumes, Problem> {
-        let layout = |path: &Path, kind| open_file(path, kind, image);
-        let outer = files.outer_header.as_deref().map(|path| layout(path, Kind::Standard)).transpose()?;
-        let hidden = files.hidden_header.as_deref().map(|path| layout(path, Kind::Hidden)).transpose()?;
+        let header = |path: &Path, kind| Header::open(path, kind, image, files.risk_wrong_disk);
+        let outer = files.outer_header.as_deref().map(|path| header(path, Kind::Standard)).transpose()?;
+        let hidden = files.hidden_header.as_deref().map(|path| header(path, Kind::Hidden)).transpose()?;
+        let protected = hidden.as_ref().map(|hidden| hidden.layout);
         Ok(Volumes {
-            outer: outer.map(|outer| view(&outer, hidden.as_ref())).transpose()?,
-            hidden: hidden.map(|hidden| view(&hidden, None)).transpose()?,
+            outer: outer.map(|outer| outer.volume(protected)).transpose()?,
+            hidden: hidden.map(|hidden| hidden.volume(None)).transpose()?,
         })
     }
 
     /// The view of one of them.
     pub fn into_view(self, volume: Volume) -> Result<View, Problem> {
-        let view = match volume {
+        let opened = match volume {
             Volume::Outer => self.outer,
             Volume::Hidden => self.hidden,
         };
-        view.ok_or_else(|| without_header(volume))
+        opened.map(|opened| opened.view).ok_or_else(|| without_header(volume))
     }
 }
 
-// A backup is opened by the main header's code too: codes 0 and 2 make a standard volume by the same rules, codes
-// 1 and 3 a hidden one.
-fn open_file(path: &Path, kind: Kind, image: &Image) -> Result<Layout, Problem> {
-    let bytes = read_header(path).map_err(Problem::file(path))?;
-    let code = if kind == Kind::Standard { Location::Standard.code() } else { Location::Hidden.code() };
-    open(&bytes, &[code], image.size()?).map_err(|refusal| refused(refusal, path, bytes.len() as u64, image))
+/// What a header file tells of an image.
+struct Header {
+    layout: Layout,
+    location: Option<Location>,
 }
 
-fn view(layout: &Layout, protected: Option<&Layout>) -> Result<View, Problem> {
-    match protected {
-        Some(hidden) => View::protected(layout, hidden).map_err(|refusal| apart(refusal, layout, hidden)),
-        None => Ok(View::plain(layout)?),
+impl Header {
+    // A backup is opened by the main header's code too: codes 0 and 2 make a standard volume by the same
+    // rules, codes 1 and 3 a hidden one.
+    fn open(path: &Path, kind: Kind, image: &Image, risk_wrong_disk: bool) -> Result<Header, Problem> {
+        let bytes = read_header(path).map_err(Problem::file(path))?;
+        let code = if kind == Kind::Standard { Location::Standard.code() } else { Location::Hidden.code() };
+        let layout = open(&bytes, &[code], image.size()?)
+            .map_err(|refusal| refused(refusal, path, bytes.len() as u64, image))?;
+        let location = salts::location_of(&bytes[..SALT_SIZE], kind, image)?;
+        match location {
+            None if !risk_wrong_disk => return Err(of_another_disk(path, image)),
+            None => note(format_args!("warning: the image does not have the salt of {}", shown(path))),
+            Some(_) => {}
+        }
+        Ok(Header { layout, location })
+    }
+
+    fn volume(self, protected: Option<Layout>) -> Result<Opened, Problem> {
+        let view = match protected {
+            Some(hidden) => View::protected(&self.layout, &hidden)
+                .map_err(|refusal| apart(refusal, &self.layout, &hidden))?,
+            None => View::plain(&self.layout)?,
+        };
+        Ok(Opened { view, header: self.location })
     }
 }
 
@@ -77,6 +104,17 @@ fn refused(refusal: Refusal, path: &Path, bytes: u64, image: &Image) -> Problem 
         Refusal::HostSize => problem.fact(image.fact()),
         _ => problem.fact(format!("header: {name}")).fact(image.fact()),
     }
+}
+
+fn of_another_disk(path: &Path, image: &Image) -> Problem {
+    Problem::declined(
+        "the image does not have this header's salt, neither where the main header lies nor where its backup \
+         does: it is the wrong disk or the wrong header, or the whole disk is given instead of the partition, \
+         or the partition instead of the disk",
+    )
+    .fact(format!("header: {}", shown(path)))
+    .fact(image.fact())
+    .next("give the image that the header was read from; --risk-wrong-disk goes on all the same")
 }
 
 fn apart(refusal: Refusal, outer: &Layout, hidden: &Layout) -> Problem {
