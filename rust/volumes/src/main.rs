@@ -20,6 +20,7 @@ mod notes;
 mod options;
 mod picture;
 mod problem;
+mod progress;
 mod reading;
 mod regions;
 mod salts;

@@ -11,6 +11,7 @@ use crate::judging::{judge_read, refused, sectors};
 use crate::names::{shown, STREAM};
 use crate::notes::note;
 use crate::problem::Problem;
+use crate::progress::Progress;
 use crate::system;
 use crate::target::Target;
 use crate::volumes::Volumes;
@@ -35,12 +36,15 @@ pub fn read(files: &Files, volume: Volume, extent: Extent, path: &Path) -> Resul
 }
 
 fn copy(view: &View, image: &Image, extent: Extent, mut target: Target) -> Result<(), Problem> {
+    let mut progress = Progress::new("read", extent);
     for call in extent.calls() {
         if system::caught() {
             return Err(Problem::interrupted().fact("the copy, which was not whole, is removed".to_string()));
         }
         target.write(&read_call(view, image, call)?)?;
+        progress.add(call);
     }
+    progress.wait();
     target.finish()
 }
 

@@ -1,7 +1,7 @@
 //! Where a read puts its bytes: a new file, which has its name only once it is whole, or standard output.
 
 use std::fs::{self, File};
-use std::io::{self, Write};
+use std::io::{self, IsTerminal, Write};
 use std::os::fd::AsFd;
 use std::path::{Path, PathBuf};
 
@@ -45,6 +45,10 @@ impl Target {
 // Not through `io::stdout`, which would look for line ends in the sectors.
 fn output() -> io::Result<File> {
     let output = io::stdout();
+    if output.is_terminal() {
+        let ground = "standard output is a terminal: name a file, or let a program take the sectors";
+        return Err(io::Error::new(io::ErrorKind::InvalidInput, ground));
+    }
     output.as_fd().try_clone_to_owned().map(File::from)
 }
 

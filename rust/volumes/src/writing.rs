@@ -11,6 +11,7 @@ use crate::judging::{judge_end, judge_write, refused, sectors};
 use crate::names::STREAM;
 use crate::notes::note;
 use crate::problem::Problem;
+use crate::progress::Progress;
 use crate::source::Source;
 use crate::system;
 use crate::volumes::Volumes;
@@ -37,7 +38,9 @@ pub fn write(files: &Files, volume: Volume, first: u64, path: &Path) -> Result<S
 // Signals are caught from here on, so that none ends the program within a call.
 fn copy_and_sync(view: &mut View, image: &Image, source: &Source) -> Result<(), Problem> {
     system::catch_signals();
-    let copied = copy(view, image, source);
+    let mut progress = Progress::new("written", source.extent);
+    let copied = copy(view, image, source, &mut progress);
+    progress.wait();
     let uncertain = format!("uncertain: {}, which may not be on the disk", sectors(view, source.extent));
     match (copied, image.sync()) {
         (copied, Ok(())) => copied,
@@ -46,11 +49,12 @@ fn copy_and_sync(view: &mut View, image: &Image, source: &Source) -> Result<(), 
     }
 }
 
-fn copy(view: &mut View, image: &Image, source: &Source) -> Result<(), Problem> {
+fn copy(view: &mut View, image: &Image, source: &Source, progress: &mut Progress) -> Result<(), Problem> {
     let extent = source.extent;
     for call in extent.calls() {
         let written = Extent { count: call.first - extent.first, ..extent };
         copy_call(view, image, source, call).map_err(|problem| part_way(problem, view, written, extent))?;
+        progress.add(call);
     }
     // Once more at the end: the image may have been cut short during the last call.
     judge_end(view, image, extent).map_err(|problem| part_way(problem, view, extent, extent))
