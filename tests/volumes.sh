@@ -2,7 +2,7 @@
 # Builds the program rust/volumes and runs it on samples that it makes: what it says, copies, refuses and leaves
 # behind, and how it ends. The checks stand in tests/volumes/, by topic; topics can be named as arguments.
 # ONDRISTELA_LIB_DIR names the folder of a built libondristela.a, as for every cargo command in rust/.
-# Needs python3, and flock of util-linux. What needs a loop device or a mount is skipped where
+# Needs python3, and flock of util-linux. What needs a loop device, a mount or a manual reader is skipped where
 # there is none, with a line that says so. Ends with 1 at the first check that fails.
 set -euo pipefail
 
