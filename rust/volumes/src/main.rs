@@ -11,6 +11,7 @@ mod arguments;
 mod demo;
 mod extent;
 mod header;
+mod header_file;
 mod image;
 mod judging;
 mod names;

@@ -9,10 +9,10 @@ use ondristela::{Location, Refusal};
 
 use crate::arguments::Files;
 use crate::header::{header, HEADERS};
+use crate::header_file::read_header;
 use crate::noise::noise;
 use crate::problem::Problem;
 use crate::regions::HEADER_AREA_SIZE;
-use crate::volumes::read_header;
 
 const HOST_SIZE: u64 = 1_048_576;
 

@@ -1,18 +1,13 @@
 //! An image's volumes, opened by their headers.
 
-use std::fs::File;
-use std::io::{self, Read};
 use std::path::Path;
 
-use ondristela::{open, Kind, Layout, Location, Refusal, View, HEADER_SIZE, MAX_CANDIDATES};
+use ondristela::{Kind, Layout, Location, Refusal, View};
 
 use crate::arguments::{without_header, Files, Volume};
+use crate::header_file::Header;
 use crate::image::Image;
-use crate::names::shown;
-use crate::notes::note;
 use crate::problem::Problem;
-use crate::salts::{self, SALT_SIZE};
-use crate::sizes::size;
 use crate::thousands::thousands;
 
 /// A volume, and where the image has its header; nowhere, if the risk was taken.
@@ -35,8 +30,8 @@ impl Volumes {
         let hidden = files.hidden_header.as_deref().map(|path| header(path, Kind::Hidden)).transpose()?;
         let protected = hidden.as_ref().map(|hidden| hidden.layout);
         Ok(Volumes {
-            outer: outer.map(|outer| outer.volume(protected)).transpose()?,
-            hidden: hidden.map(|hidden| hidden.volume(None)).transpose()?,
+            outer: outer.map(|outer| volume(outer, protected)).transpose()?,
+            hidden: hidden.map(|hidden| volume(hidden, None)).transpose()?,
         })
     }
 
@@ -50,71 +45,15 @@ impl Volumes {
     }
 }
 
-/// What a header file tells of an image.
-struct Header {
-    layout: Layout,
-    location: Option<Location>,
-}
-
-impl Header {
-    // A backup is opened by the main header's code too: codes 0 and 2 make a standard volume by the same
-    // rules, codes 1 and 3 a hidden one.
-    fn open(path: &Path, kind: Kind, image: &Image, risk_wrong_disk: bool) -> Result<Header, Problem> {
-        let bytes = read_header(path).map_err(Problem::file(path))?;
-        let code = if kind == Kind::Standard { Location::Standard.code() } else { Location::Hidden.code() };
-        let layout = open(&bytes, &[code], image.size()?)
-            .map_err(|refusal| refused(refusal, path, bytes.len() as u64, image))?;
-        let location = salts::location_of(&bytes[..SALT_SIZE], kind, image)?;
-        match location {
-            None if !risk_wrong_disk => return Err(of_another_disk(path, image)),
-            None => note(format_args!("warning: the image does not have the salt of {}", shown(path))),
-            Some(_) => {}
+fn volume(header: Header, protected: Option<Layout>) -> Result<Opened, Problem> {
+    let layout = header.layout;
+    let view = match protected {
+        Some(hidden) => {
+            View::protected(&layout, &hidden).map_err(|refusal| apart(refusal, &layout, &hidden))?
         }
-        Ok(Header { layout, location })
-    }
-
-    fn volume(self, protected: Option<Layout>) -> Result<Opened, Problem> {
-        let view = match protected {
-            Some(hidden) => View::protected(&self.layout, &hidden)
-                .map_err(|refusal| apart(refusal, &self.layout, &hidden))?,
-            None => View::plain(&self.layout)?,
-        };
-        Ok(Opened { view, header: self.location })
-    }
-}
-
-const MAX_SIZE: usize = MAX_CANDIDATES * HEADER_SIZE;
-
-/// A header file's bytes, as many as there are: the library judges how many there may be. No more are read
-/// than tell it that there are too many, so a disk named by mistake is not loaded.
-pub fn read_header(path: &Path) -> io::Result<Vec<u8>> {
-    let mut bytes = Vec::new();
-    File::open(path)?.take(MAX_SIZE as u64 + 1).read_to_end(&mut bytes)?;
-    Ok(bytes)
-}
-
-fn refused(refusal: Refusal, path: &Path, bytes: u64, image: &Image) -> Problem {
-    let problem = Problem::refused(refusal);
-    let name = shown(path);
-    match refusal {
-        Refusal::Lengths if bytes > MAX_SIZE as u64 => {
-            problem.fact(format!("header: {name}, more than {}", size(MAX_SIZE as u64)))
-        }
-        Refusal::Lengths => problem.fact(format!("header: {name}, {}", size(bytes))),
-        Refusal::HostSize => problem.fact(image.fact()),
-        _ => problem.fact(format!("header: {name}")).fact(image.fact()),
-    }
-}
-
-fn of_another_disk(path: &Path, image: &Image) -> Problem {
-    Problem::declined(
-        "the image does not have this header's salt, neither where the main header lies nor where its backup \
-         does: it is the wrong disk or the wrong header, or the whole disk is given instead of the partition, \
-         or the partition instead of the disk",
-    )
-    .fact(format!("header: {}", shown(path)))
-    .fact(image.fact())
-    .next("give the image that the header was read from; --risk-wrong-disk goes on all the same")
+        None => View::plain(&layout)?,
+    };
+    Ok(Opened { view, header: header.location })
 }
 
 fn apart(refusal: Refusal, outer: &Layout, hidden: &Layout) -> Problem {
