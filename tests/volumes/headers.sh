@@ -38,6 +38,9 @@ expect 'the hidden salt in an outer header' 1 "does not have this header's salt"
 says 'its header' 'header: hidden_salt.header'
 header 'hidden()' >strange.header
 expect 'a strange hidden header' 1 'header: strange.header' show disk.img outer.header strange.header
+truncate -s 1M blank.img
+header 'header(salt=bytes(64))' >blank.header
+expect 'a blank salt on a blank disk' 1 "does not have this header's salt" volumes show blank.img --outer blank.header
 
 # Another disk of the same size; the disk in the place of its partition, and a piece of the partition.
 random 1048576 >other.img
