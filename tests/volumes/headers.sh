@@ -25,6 +25,8 @@ says 'its advice' 'give the partition, such as /dev/sdb1'
 expect 'an image of odd size' 1 '(refusal 3)' show odd.img outer.header hidden.header
 says 'its size' 'image: odd.img, 976.6 KiB (1,000,000 bytes)'
 expect 'an empty image' 2 'empty.img: empty' show empty.img outer.header hidden.header
+expect 'headers from pipes' 0 'outer     hidden' show disk.img <(cat outer.header) <(cat hidden.header)
+expect 'a missing header' 2 'missing.header' show disk.img missing.header hidden.header
 expect 'a missing image' 2 'missing.img' show missing.img outer.header hidden.header
 
 # A header belongs to an image that has its salt, where the header lies or where its backup does.
