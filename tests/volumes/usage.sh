@@ -6,8 +6,8 @@ expect 'help' 0 'volumes show IMAGE' volumes help
 expect '--help' 0 'volumes show IMAGE' volumes show --help
 expect '--version' 0 "volumes $(sed -n 's/^version = "\(.*\)"/\1/p' "$root/rust/Cargo.toml")" volumes --version
 expect 'no command' 2 'usage: no command' volumes
-expect 'an unknown command' 2 'is not a command' volumes list
-expect 'a missing argument' 2 'usage: ' volumes read disk.img --outer outer.header
+expect 'an unknown command' 2 'is no command' volumes list
+expect 'a missing argument' 2 'read takes IMAGE VOLUME FIRST COUNT FILE' volumes read disk.img --outer outer.header
 expect 'no header' 2 'no header' volumes show disk.img
 expect 'an unknown option' 2 'is no option' on_disk show --force
 expect 'an unknown volume' 2 'VOLUME is outer or hidden' on_disk read inner 0 1 copy

@@ -130,13 +130,29 @@ pub fn without_header(volume: Volume) -> Problem {
 }
 
 fn unknown(name: &OsStr, words: &[&OsStr]) -> Problem {
-    Problem::usage(format!("{name:?} with {} words after it is not a command", words.len()))
+    let takes = match name.to_str() {
+        Some("help") => "nothing",
+        Some("sample" | "demo") => "DIR",
+        Some("show") => "IMAGE and headers",
+        Some("read") => "IMAGE VOLUME FIRST COUNT FILE and headers",
+        Some("write") => "IMAGE VOLUME FIRST FILE and headers",
+        _ => return Problem::usage(format!("{name:?} is no command")),
+    };
+    let given = words.len();
+    Problem::usage(format!(
+        "{} takes {takes}; beside headers, {given} words are given",
+        name.to_string_lossy()
+    ))
 }
 
+// Digits alone: the program prints commas in large numbers, but one in a command may be a slip.
 fn number(what: &str, text: &OsStr) -> Result<u64, Problem> {
     text.to_str()
+        .filter(|text| text.bytes().all(|byte| byte.is_ascii_digit()))
         .and_then(|digits| digits.parse().ok())
-        .ok_or_else(|| Problem::usage(format!("{what} is a whole number below 2^64, not {text:?}")))
+        .ok_or_else(|| {
+            Problem::usage(format!("{what} is a whole number below 2^64, in digits, not {text:?}"))
+        })
 }
 
 #[cfg(test)]
@@ -171,11 +187,13 @@ mod tests {
             ("show disk --outer a --outer b", "--outer is given twice"),
             ("show disk --inner a", "\"--inner\" is no option"),
             ("show disk --risk-wrong-disk=yes --outer a", "is no option"),
-            ("show disk more --outer a", "\"show\" with 2 words"),
+            ("list disk", "\"list\" is no command"),
+            ("show disk more --outer a", "show takes IMAGE and headers; beside headers, 2 words"),
             ("sample folder --outer a", "takes no headers"),
             ("read disk inner 0 1 copy --outer a", "VOLUME is outer or hidden"),
             ("read disk hidden 0 1 copy --outer a", "the hidden volume needs its header"),
             ("read disk outer 0 -1 copy --outer a", "COUNT is a whole number"),
+            ("read disk outer 1,024 1 copy --outer a", "FIRST is a whole number"),
             ("write disk outer 18446744073709551616 source --outer a", "FIRST is a whole number"),
         ];
         for (line, words) in lines {
