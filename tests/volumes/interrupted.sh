@@ -25,7 +25,7 @@ unshare --mount --map-root-user bash in_small_system "$program" >"$work/said" 2>
 if [ "$ended" -eq 3 ]; then
     says 'a full disk' 'small/disk.img: No space left on device'
     says 'a full disk' 'written: outer sectors 0 to 255, of outer sectors 0 to 299'
-elif [ "$ended" -eq 77 ] || grep -q '^unshare:' "$work/said"; then
+elif [ "$ended" -eq 77 ] || grep -q 'unshare:' "$work/said"; then
     skipped 'a full disk below a sparse image (no file system can be mounted)'
 else
     failed "a full disk ended with $ended and not with 3"
