@@ -46,8 +46,9 @@ def beside_terminal():
 
 
 def to_terminal():
+    """How a read to a terminal ends. Nobody empties it, so one that is not refused does not end by itself."""
     _, terminal = pty.openpty()
-    return subprocess.call([sys.argv[1], 'read', *sys.argv[2:], '-'], stdout=terminal)
+    return subprocess.call([sys.argv[1], 'read', *sys.argv[2:], '-'], stdout=terminal, timeout=20)
 
 
 shown = on_terminal()
