@@ -11,12 +11,12 @@ cd "$root"
 cargo build --quiet --release --offline --manifest-path rust/Cargo.toml --package volumes
 program=$(realpath "${CARGO_TARGET_DIR:-rust/target}")/release/volumes
 work=$(mktemp -d)
-# What is to be undone at the end: mounts and loop devices.
+# Commands that undo, at the end, what would stay behind: mounts and loop devices.
 undo=()
 finish() {
     local index
     for ((index = ${#undo[@]} - 1; index >= 0; index--)); do
-        ${undo[index]} || true
+        eval "${undo[index]}" || true
     done
     rm -rf "$work"
 }

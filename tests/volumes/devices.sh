@@ -22,7 +22,7 @@ if device=$(losetup --find --show disk.img 2>/dev/null); then
     # A file system on it is mounted; the headers are passed over, so that nothing else is in the way.
     mkdir mounted
     if mkfs.ext4 -q -F "$device" 2>/dev/null && mount -o ro "$device" mounted 2>/dev/null; then
-        undo+=("umount $work/devices/mounted")
+        undo+=("umount ${work@Q}/devices/mounted")
         cp disk.img expected.img
         expect 'a write to a mounted device' 2 'in use: it is mounted' \
             on_device write --risk-wrong-disk outer 0 sector
