@@ -9,12 +9,12 @@ use ondristela::{Location, Refusal};
 
 use crate::arguments::Files;
 use crate::header::{header, HEADERS};
+use crate::header_file::read_header;
 use crate::noise::noise;
 use crate::problem::Problem;
-use crate::volumes::read_header;
+use crate::regions::HEADER_AREA_SIZE;
 
 const HOST_SIZE: u64 = 1_048_576;
-const HEADER_AREA_SIZE: usize = 65_536;
 
 // The image and the two headers.
 const NAMES: [&str; 3] = ["disk.img", "outer.header", "hidden.header"];
@@ -29,7 +29,12 @@ pub fn make(folder: &Path) -> Result<Files, Problem> {
     make_file(&image, again, |file| fill_image(file, &areas))?;
     make_file(&outer_header, again, |file| file.write_all(&outer))?;
     make_file(&hidden_header, again, |file| file.write_all(&hidden))?;
-    Ok(Files { image, outer_header, hidden_header })
+    Ok(Files {
+        image,
+        outer_header: Some(outer_header),
+        hidden_header: Some(hidden_header),
+        risk_wrong_disk: false,
+    })
 }
 
 /// What was made.
@@ -48,7 +53,7 @@ fn make_file(path: &Path, again: bool, fill: impl Fn(&mut File) -> io::Result<()
 fn header_areas() -> Result<Vec<(u64, Vec<u8>)>, Refusal> {
     let area = |location: Location| {
         let offset = location.offset(HOST_SIZE)?;
-        Ok((offset, noise(location.code(), HEADER_AREA_SIZE)))
+        Ok((offset, noise(location.code(), HEADER_AREA_SIZE as usize)))
     };
     Location::ALL.into_iter().map(area).collect()
 }

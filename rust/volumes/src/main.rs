@@ -1,25 +1,39 @@
-//! Shows where an outer and a hidden volume lie on a disk image, and copies sectors in and out of them.
+//! Shows where VeraCrypt and TrueCrypt volumes lie on a disk, and copies sectors in and out of them.
 //!
-//! It works on disk images and on disks. Headers come deciphered, each in a file of its own; sectors are
-//! copied as they stand, enciphered. The outer volume is always opened with the hidden one protected.
-//! `volumes help` lists the commands.
+//! It works on image files and on block devices. Headers come deciphered, each in a file of its own, and must be
+//! the image's own; sectors are copied as they stand, enciphered. Where the library says a sector lies, and
+//! nowhere else, it is read and written. `volumes help` lists the commands.
 
 #![deny(unsafe_code)]
 
+mod advice;
 mod arguments;
 mod demo;
 mod extent;
 mod header;
-#[allow(unsafe_code)]
-mod mapping;
+mod header_file;
+mod image;
+mod judging;
+mod names;
+mod new_file;
 mod noise;
+mod notes;
+mod options;
 mod picture;
 mod problem;
+mod progress;
 mod reading;
 mod regions;
+mod salts;
 mod sample;
 mod show;
+mod sizes;
+mod source;
+#[allow(unsafe_code)]
+mod system;
+mod target;
 mod thousands;
+mod usage;
 mod volumes;
 mod wrapping;
 mod writing;
@@ -31,13 +45,13 @@ use std::path::Path;
 use std::process::ExitCode;
 
 use arguments::{Command, Files};
-use mapping::Mapping;
+use image::Image;
 use problem::Problem;
 use volumes::Volumes;
 
 fn main() -> ExitCode {
     let arguments: Vec<OsString> = env::args_os().skip(1).collect();
-    match arguments::parse(&arguments).and_then(run).and_then(|text| print(&text)) {
+    match arguments::parse(&arguments).and_then(run).and_then(|report| print(&report)) {
         Ok(()) => ExitCode::SUCCESS,
         Err(problem) => {
             // Where even standard error is closed, the exit status still tells.
@@ -49,7 +63,8 @@ fn main() -> ExitCode {
 
 fn run(command: Command) -> Result<String, Problem> {
     match command {
-        Command::Help => Ok(arguments::USAGE.to_string()),
+        Command::Help => Ok(usage::USAGE.to_string()),
+        Command::Version => Ok(usage::VERSION.to_string()),
         Command::Sample { folder } => sample_in(&folder),
         Command::Demo { folder } => demo::run(&folder),
         Command::Show { files } => show_files(&files),
@@ -64,11 +79,15 @@ fn sample_in(folder: &Path) -> Result<String, Problem> {
 }
 
 fn show_files(files: &Files) -> Result<String, Problem> {
-    let image = Mapping::open(&files.image).map_err(Problem::file(&files.image))?;
-    let volumes = Volumes::open(files, image.bytes())?;
-    Ok(show::show(&files.image, &volumes)?)
+    let image = Image::to_read(&files.image)?;
+    let volumes = Volumes::open(files, &image)?;
+    show::show(&files.image, image.size()?, &volumes)
 }
 
-fn print(text: &str) -> Result<(), Problem> {
-    io::stdout().write_all(text.as_bytes()).map_err(Problem::file(Path::new("standard output")))
+fn print(report: &str) -> Result<(), Problem> {
+    let mut output = io::stdout();
+    output.write_all(report.as_bytes()).and_then(|()| output.flush()).map_err(|error| {
+        let problem = Problem::file(Path::new("standard output"))(error);
+        problem.fact("the command was done; only its report could not be printed".to_string())
+    })
 }

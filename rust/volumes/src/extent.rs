@@ -26,9 +26,14 @@ impl Extent {
             .map(move |first| Extent { first, count: MAX_COUNT.min(self.end() - first) })
     }
 
+    /// The sectors' bytes.
+    pub fn size(self) -> u64 {
+        self.count.saturating_mul(SECTOR_SIZE as u64)
+    }
+
     /// A buffer for the sectors of one call.
     pub fn buffer(self) -> Vec<u8> {
-        vec![0; self.count as usize * SECTOR_SIZE]
+        vec![0; self.size() as usize]
     }
 }
 

@@ -3,6 +3,7 @@
 use ondristela::{crc32, Location, HEADER_SIZE, SECTOR_SIZE};
 
 use crate::noise::noise;
+use crate::salts::SALT_SIZE;
 
 /// What tells the sample's two headers apart.
 #[derive(Clone, Copy)]
@@ -34,7 +35,7 @@ pub const HEADERS: [Fields; 2] = [
 
 // The fields' offsets. The flags and the reserved bytes are not among them: they stay zero.
 const SALT: usize = 0;
-const MAGIC: usize = 64;
+const MAGIC: usize = SALT_SIZE;
 const VERSION: usize = 68;
 const MIN_PROGRAM_VERSION: usize = 70;
 const KEYS_CHECKSUM: usize = 72;
@@ -50,7 +51,7 @@ const KEYS: usize = 256;
 pub fn header(fields: Fields) -> [u8; HEADER_SIZE] {
     let mut header = [0; HEADER_SIZE];
     // The salt is never enciphered, so the image has the same bytes there.
-    put(&mut header, SALT, &noise(fields.location.code(), MAGIC));
+    put(&mut header, SALT, &noise(fields.location.code(), SALT_SIZE));
     put(&mut header, MAGIC, b"TRUE");
     put(&mut header, VERSION, &5_u16.to_be_bytes());
     put(&mut header, MIN_PROGRAM_VERSION, &[7, 0]);

@@ -10,7 +10,7 @@ const HEADER_BOX: usize = 3;
 
 /// The picture: the outer volume's extent above the numbered boxes, the hidden one's below.
 pub fn picture(regions: &[Region]) -> String {
-    let boxes: Vec<(Use, usize)> = regions.iter().map(|region| region.used).zip(widths(regions)).collect();
+    let boxes: Vec<(&Region, usize)> = regions.iter().zip(widths(regions)).collect();
     [above(&boxes), numbered(&boxes), below(&boxes)].concat()
 }
 
@@ -32,10 +32,10 @@ fn widths(regions: &[Region]) -> Vec<usize> {
 }
 
 // The outer volume is undivided here, since the hidden one lies inside it.
-fn above(boxes: &[(Use, usize)]) -> String {
+fn above(boxes: &[(&Region, usize)]) -> String {
     let mut spans: Vec<(&str, usize)> = Vec::new();
-    for &(used, width) in boxes {
-        let volume = if matches!(used, Use::Outer | Use::Hidden) { "outer" } else { "" };
+    for &(region, width) in boxes {
+        let volume = if region.in_outer { "outer" } else { "" };
         match spans.last_mut() {
             Some((last, span)) if !volume.is_empty() && *last == volume => *span += 1 + width,
             _ => spans.push((volume, width)),
@@ -44,15 +44,16 @@ fn above(boxes: &[(Use, usize)]) -> String {
     framed('+', spans.into_iter().map(|(volume, width)| labelled(volume, width)))
 }
 
-fn numbered(boxes: &[(Use, usize)]) -> String {
-    let drawn =
-        |(&(used, width), number): (&(Use, usize), usize)| centred(&number.to_string(), width, fill(used));
+fn numbered(boxes: &[(&Region, usize)]) -> String {
+    let drawn = |(&(region, width), number): (&(&Region, usize), usize)| {
+        centred(&number.to_string(), width, fill(region.used))
+    };
     framed('|', boxes.iter().zip(1..).map(drawn))
 }
 
-fn below(boxes: &[(Use, usize)]) -> String {
-    let volume = |used| if used == Use::Hidden { "hidden" } else { "" };
-    framed('+', boxes.iter().map(|&(used, width)| labelled(volume(used), width)))
+fn below(boxes: &[(&Region, usize)]) -> String {
+    let volume = |region: &Region| if region.used == Use::Hidden { "hidden" } else { "" };
+    framed('+', boxes.iter().map(|&(region, width)| labelled(volume(region), width)))
 }
 
 // A border that names a volume, in full where there is room.
@@ -65,6 +66,7 @@ fn labelled(volume: &str, width: usize) -> String {
 fn fill(used: Use) -> char {
     match used {
         Use::Headers | Use::Unused => ' ',
+        Use::Unknown => '?',
         Use::Outer => '.',
         Use::Hidden => '#',
     }

@@ -1,0 +1,73 @@
+//! What a header file tells of an image.
+
+use std::fs::File;
+use std::io::{self, Read};
+use std::path::Path;
+
+use ondristela::{open, Kind, Layout, Location, Refusal, HEADER_SIZE, MAX_CANDIDATES};
+
+use crate::image::Image;
+use crate::names::shown;
+use crate::notes::note;
+use crate::problem::Problem;
+use crate::salts::{self, SALT_SIZE};
+use crate::sizes::size;
+
+/// A volume's layout, and where the image has its header; nowhere, if the risk was taken.
+pub struct Header {
+    pub layout: Layout,
+    pub location: Option<Location>,
+}
+
+impl Header {
+    /// Opens a header against the image's size, and makes sure that it is this image's. A backup is opened by
+    /// the main header's code too: codes 0 and 2 make a standard volume by the same rules, codes 1 and 3 a hidden
+    /// one.
+    pub fn open(path: &Path, kind: Kind, image: &Image, risk_wrong_disk: bool) -> Result<Header, Problem> {
+        let bytes = read_header(path).map_err(Problem::file(path))?;
+        let code = if kind == Kind::Standard { Location::Standard.code() } else { Location::Hidden.code() };
+        let layout = open(&bytes, &[code], image.size()?)
+            .map_err(|refusal| refused(refusal, path, bytes.len() as u64, image))?;
+        let location = salts::location_of(&bytes[..SALT_SIZE], kind, image)?;
+        match location {
+            None if !risk_wrong_disk => return Err(of_another_disk(path, image)),
+            None => note(format_args!("warning: the image does not have the salt of {}", shown(path))),
+            Some(_) => {}
+        }
+        Ok(Header { layout, location })
+    }
+}
+
+const MAX_SIZE: usize = MAX_CANDIDATES * HEADER_SIZE;
+
+/// A header file's bytes, as many as there are: the library judges how many there may be. No more are read
+/// than tell it that there are too many, so a disk named by mistake is not loaded.
+pub fn read_header(path: &Path) -> io::Result<Vec<u8>> {
+    let mut bytes = Vec::new();
+    File::open(path)?.take(MAX_SIZE as u64 + 1).read_to_end(&mut bytes)?;
+    Ok(bytes)
+}
+
+fn refused(refusal: Refusal, path: &Path, bytes: u64, image: &Image) -> Problem {
+    let problem = Problem::refused(refusal);
+    let name = shown(path);
+    match refusal {
+        Refusal::Lengths if bytes > MAX_SIZE as u64 => {
+            problem.fact(format!("header: {name}, more than {}", size(MAX_SIZE as u64)))
+        }
+        Refusal::Lengths => problem.fact(format!("header: {name}, {}", size(bytes))),
+        Refusal::HostSize => problem.fact(image.fact()),
+        _ => problem.fact(format!("header: {name}")).fact(image.fact()),
+    }
+}
+
+fn of_another_disk(path: &Path, image: &Image) -> Problem {
+    Problem::declined(
+        "the image does not have this header's salt, neither where the main header lies nor where its backup \
+         does: it is the wrong disk or the wrong header, or the whole disk is given instead of the partition, \
+         or the partition instead of the disk",
+    )
+    .fact(format!("header: {}", shown(path)))
+    .fact(image.fact())
+    .next("give the image that the header was read from; --risk-wrong-disk goes on all the same")
+}

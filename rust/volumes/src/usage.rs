@@ -1,0 +1,43 @@
+//! What `volumes help` and `volumes --version` print.
+
+pub const VERSION: &str = concat!("volumes ", env!("CARGO_PKG_VERSION"), "\n");
+
+pub const USAGE: &str = "\
+volumes show IMAGE HEADERS
+    shows where the volumes lie
+volumes read IMAGE HEADERS VOLUME FIRST COUNT FILE
+    copies COUNT sectors, from sector FIRST on, into a new FILE
+volumes write IMAGE HEADERS VOLUME FIRST FILE
+    copies FILE, whole sectors of 512 bytes, from sector FIRST on
+volumes sample DIR
+    makes a sample in DIR: disk.img, outer.header, hidden.header
+    (an earlier sample there is made anew, other files are left alone)
+volumes demo DIR
+    makes the sample, shows it and works on it, refusals included
+volumes help, volumes --help, volumes --version
+
+IMAGE is an image file or a block device. Of a volume on a partition give
+the partition, such as /dev/sdb1, and not the disk.
+
+HEADERS are deciphered headers, main ones or backups, 512 bytes each:
+    --outer FILE         the standard volume's
+    --hidden FILE        the hidden volume's
+One is enough for a volume alone. With both, writes to the outer volume
+that would touch the hidden one are refused. With --outer alone nothing
+protects a hidden volume. Headers whose salt is not on IMAGE are refused:
+    --risk-wrong-disk    goes on all the same; what is written then may
+                         destroy another disk's data
+
+VOLUME is outer or hidden; its sectors count from 0.
+FILE - is standard output or standard input. Standard input is copied to a
+nameless file in $TMPDIR (or /tmp) first, since all of a write is judged
+before its first byte is written.
+Sectors are copied as they stand, enciphered.
+
+Exit status:
+    0  done
+    1  refused; nothing was changed
+    2  bad usage, or a file that cannot be used
+    3  stopped part-way, by a signal or by an error while writing; the
+       message says which sectors were written
+";

@@ -1,0 +1,86 @@
+//! Copies a file into a volume's sectors.
+
+use std::path::Path;
+
+use ondristela::{Kind, View};
+
+use crate::arguments::{Files, Volume};
+use crate::extent::Extent;
+use crate::image::Image;
+use crate::judging::{judge_end, judge_write, refused, sectors};
+use crate::names::STREAM;
+use crate::notes::note;
+use crate::problem::Problem;
+use crate::progress::Progress;
+use crate::source::Source;
+use crate::system;
+use crate::volumes::Volumes;
+
+/// Copies a whole file, or standard input, into a volume, from sector `first` on. A write that is refused
+/// changes nothing.
+pub fn write(files: &Files, volume: Volume, first: u64, path: &Path) -> Result<String, Problem> {
+    let image = Image::to_write(&files.image)?;
+    let mut view = Volumes::open(files, &image)?.into_view(volume)?;
+    let source = match path == Path::new(STREAM) {
+        true => Source::spool(first, |extent| judge_end(&mut view, &image, extent))?,
+        false => Source::open(path, first)?,
+    };
+    judge_write(&mut view, &image, source.extent)?;
+    if view.layout.kind == Kind::Standard && view.protected.is_none() {
+        note(
+            "note: no --hidden header is given, so nothing is protected: a hidden volume may be overwritten",
+        );
+    }
+    copy_and_sync(&mut view, &image, &source)?;
+    Ok(format!("wrote {} {}, from {}\n", volume.name(), source.extent, source.name()))
+}
+
+// Signals are caught from here on, so that none ends the program within a call.
+fn copy_and_sync(view: &mut View, image: &Image, source: &Source) -> Result<(), Problem> {
+    system::catch_signals();
+    let mut progress = Progress::new("written", source.extent);
+    let copied = copy(view, image, source, &mut progress);
+    progress.wait();
+    let uncertain = format!("uncertain: {}, which may not be on the disk", sectors(view, source.extent));
+    match (copied, image.sync()) {
+        (copied, Ok(())) => copied,
+        (Ok(()), Err(problem)) => Err(problem.part_way().fact(uncertain)),
+        (Err(problem), Err(_)) => Err(problem.fact(uncertain)),
+    }
+}
+
+fn copy(view: &mut View, image: &Image, source: &Source, progress: &mut Progress) -> Result<(), Problem> {
+    let extent = source.extent;
+    for call in extent.calls() {
+        let written = Extent { count: call.first - extent.first, ..extent };
+        copy_call(view, image, source, call).map_err(|problem| part_way(problem, view, written, extent))?;
+        progress.add(call);
+    }
+    // Once more at the end: the image may have been cut short during the last call.
+    judge_end(view, image, extent).map_err(|problem| part_way(problem, view, extent, extent))
+}
+
+fn copy_call(view: &mut View, image: &Image, source: &Source, call: Extent) -> Result<(), Problem> {
+    if system::caught() {
+        return Err(Problem::interrupted());
+    }
+    write_call(view, image, call, &source.bytes(call)?)
+}
+
+// Writes the bytes to an extent that one call takes.
+fn write_call(view: &mut View, image: &Image, call: Extent, bytes: &[u8]) -> Result<(), Problem> {
+    let answer = view.write_extent(image.size()?, call.first, call.count, bytes.len() as u64);
+    let offset = answer.map_err(|refusal| refused(refusal, view, image, call))?;
+    image.write_at(bytes, offset).map_err(|problem| {
+        problem.fact(format!("uncertain: {}, which may be written in part", sectors(view, call)))
+    })
+}
+
+fn part_way(problem: Problem, view: &View, written: Extent, all: Extent) -> Problem {
+    let all = sectors(view, all);
+    let fact = match written.count {
+        0 => format!("written: none of {all}"),
+        _ => format!("written: {}, of {all}", sectors(view, written)),
+    };
+    problem.part_way().fact(fact).next("the same command, given again, writes all of them once more")
+}

@@ -1,0 +1,28 @@
+# A disk of 8 TiB, with little memory. What lies where is looked up by dd.
+# shellcheck shell=bash disable=SC2154
+
+begin large
+# at SECTOR: a sector of the large image.
+at() { dd if=large.img bs=512 skip="$1" count=1 status=none; }
+if truncate -s 8T large.img 2>/dev/null; then
+    dd if=disk.img of=large.img bs=64K count=2 conv=notrunc status=none
+    header 'header(data_size=2**43 - 262_144, salt=salt_at(0))' >outer.header
+    header 'hidden(data_start=2**42, data_size=2**42 - 131_072, salt=salt_at(65_536))' >hidden.header
+    little() { (ulimit -v 500000 && volumes "$1" large.img "${headers[@]}" "${@:2}"); }
+    random 512 >sector
+    expect 'a large disk' 0 'large.img, 8.0 TiB (8,796,093,022,208 bytes)' little show
+    expect 'a write before the hidden volume' 0 'wrote outer sector 8,589,934,335' \
+        little write outer $((2**33 - 257)) sector
+    same 'a write before the hidden volume' sector <(at $((2**33 - 1)))
+    expect 'a write into the hidden volume' 1 '(refusal 18)' little write outer $((2**33 - 256)) sector
+    expect 'a write to its first sector' 0 'wrote hidden' little write hidden 0 sector
+    same 'a write to its first sector' sector <(at $((2**33)))
+    expect 'a write to its last sector' 0 'wrote hidden' little write hidden $((2**33 - 257)) sector
+    same 'a write to its last sector' sector <(at $((2**34 - 257)))
+    expect 'a write past it' 1 '(refusal 16)' little write hidden $((2**33 - 256)) sector
+    expect 'a read across' 0 'count 300' little read outer $((2**33 - 257)) 300 copy
+    same 'a read across' copy <(dd if=large.img bs=512 skip=$((2**33 - 1)) count=300 status=none)
+    rm large.img
+else
+    skipped 'a disk of 8 TiB (this file system cannot hold such a file)'
+fi
