@@ -115,9 +115,13 @@ fn search_in_order(candidates: &[u8], codes: &[u8], host_size: u64) -> Opened
     }
 }
 
-// Of two refusals, that of the first header; 4 is no header's.
+// Of two refusals, that of the first header; 4 is no header's. Most candidates are none, so that is asked
+// first: then nothing is left to do.
 fn first_refusal(first: u8, later: u8) -> u8
     ensures { λ r. ⌜ Refused r ≡ further (Refused first) (Refused later) ⌝ }
 {
+    if later == 4 {
+        return first;
+    }
     if first == 4 { later } else { first }
 }
