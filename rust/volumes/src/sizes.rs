@@ -7,6 +7,7 @@ const UNITS: [&str; 6] = ["KiB", "MiB", "GiB", "TiB", "PiB", "EiB"];
 /// A size in its unit and in bytes.
 pub fn size(bytes: u64) -> String {
     match bytes {
+        1 => "1 byte".to_string(),
         0..=1023 => short(bytes),
         _ => format!("{} ({} bytes)", short(bytes), thousands(bytes)),
     }
@@ -33,6 +34,7 @@ mod tests {
 
     #[test]
     fn sizes_have_their_unit() {
+        assert_eq!(size(1), "1 byte");
         assert_eq!(size(511), "511 bytes");
         assert_eq!(size(1_000_000), "976.6 KiB (1,000,000 bytes)");
         assert_eq!(size(1 << 43), "8.0 TiB (8,796,093,022,208 bytes)");
