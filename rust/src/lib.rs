@@ -17,6 +17,20 @@
 //! # Ok(())
 //! # }
 //! ```
+//!
+//! A disk that is too large to map is read and written by the caller itself, where the view says. A write asks
+//! [`View::write_extent`] each time, and so is refused what [`View::write`] would be.
+//!
+//! ```
+//! # fn record(disk: &std::fs::File, disk_size: u64, view: &mut ondristela::View) -> Result<(), Box<dyn std::error::Error>> {
+//! use std::os::unix::fs::FileExt;
+//!
+//! let sectors = [0x5A; 8 * 512];
+//! let offset = view.write_extent(disk_size, 0, 8, sectors.len() as u64)?;
+//! disk.write_all_at(&sectors, offset)?;
+//! # Ok(())
+//! # }
+//! ```
 
 mod layout;
 mod opening;
