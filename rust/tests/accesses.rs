@@ -59,11 +59,23 @@ fn image_size(host_size: u64, random: &mut Random) -> usize {
     random.pick(&[0, 512, right.saturating_sub(1), right.saturating_sub(512), right + 1, right + 512])
 }
 
+fn read_by_reference(access: &Access, memory: &mut Memory) -> u64 {
+    let Access { view, image_size, extent, buffer_size } = access;
+    access::read(view, &memory.image[..*image_size], *extent, &mut memory.buffer[..*buffer_size])
+}
+
+/// The answer, and the view as it is left.
+fn write_by_reference(access: &Access, memory: &mut Memory) -> (u64, View) {
+    let Access { view, image_size, extent, buffer_size } = access;
+    let mut left = *view;
+    let buffer = &memory.buffer[..*buffer_size];
+    (access::write(&mut left, &mut memory.image[..*image_size], *extent, buffer), left)
+}
+
 /// Reads from the library into `given` and from the reference into `expected`.
 fn check_read(access: &Access, given: &mut Memory, expected: &mut Memory, case: u64) -> u64 {
     let Access { view, image_size, extent, buffer_size } = access;
-    let expected_answer =
-        access::read(view, &expected.image[..*image_size], *extent, &mut expected.buffer[..*buffer_size]);
+    let expected_answer = read_by_reference(access, expected);
     let numbers = view.numbers();
     let image = &given.image[..*image_size];
     let buffer = &mut given.buffer[..*buffer_size];
@@ -76,13 +88,7 @@ fn check_read(access: &Access, given: &mut Memory, expected: &mut Memory, case: 
 /// Writes with the library to `given` and with the reference to `expected`.
 fn check_write(access: &Access, given: &mut Memory, expected: &mut Memory, case: u64) -> u64 {
     let Access { view, image_size, extent, buffer_size } = access;
-    let mut expected_view = *view;
-    let expected_answer = access::write(
-        &mut expected_view,
-        &mut expected.image[..*image_size],
-        *extent,
-        &expected.buffer[..*buffer_size],
-    );
+    let (expected_answer, expected_view) = write_by_reference(access, expected);
     let mut numbers = view.numbers();
     let image = &mut given.image[..*image_size];
     let buffer = &given.buffer[..*buffer_size];
@@ -104,8 +110,7 @@ fn told(answer: u64, offset: [u64; 1]) -> Option<usize> {
 /// Asks the library for the read's extent and takes the bytes from there, and reads with the reference.
 fn check_read_extent(access: &Access, given: &mut Memory, expected: &mut Memory, case: u64) -> u64 {
     let Access { view, image_size, extent, buffer_size } = access;
-    let expected_answer =
-        access::read(view, &expected.image[..*image_size], *extent, &mut expected.buffer[..*buffer_size]);
+    let expected_answer = read_by_reference(access, expected);
     let (numbers, mut offset) = (view.numbers(), [UNTOLD]);
     let (image, buffer) = (*image_size as u64, *buffer_size as u64);
     let answer = raw::read_extent(&numbers, image, extent.first, extent.count, buffer, &mut offset);
@@ -119,13 +124,7 @@ fn check_read_extent(access: &Access, given: &mut Memory, expected: &mut Memory,
 /// Asks the library for the write's extent and stores the bytes there, and writes with the reference.
 fn check_write_extent(access: &Access, given: &mut Memory, expected: &mut Memory, case: u64) -> u64 {
     let Access { view, image_size, extent, buffer_size } = access;
-    let mut expected_view = *view;
-    let expected_answer = access::write(
-        &mut expected_view,
-        &mut expected.image[..*image_size],
-        *extent,
-        &expected.buffer[..*buffer_size],
-    );
+    let (expected_answer, expected_view) = write_by_reference(access, expected);
     let (mut numbers, mut offset) = (view.numbers(), [UNTOLD]);
     let (image, buffer) = (*image_size as u64, *buffer_size as u64);
     let answer = raw::write_extent(&mut numbers, image, extent.first, extent.count, buffer, &mut offset);
