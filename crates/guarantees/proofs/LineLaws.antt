@@ -5,7 +5,7 @@ use native.Mathlib.Omega.{arith}
 use mathlib.Core.{Path._≡_, Logic.{_⊎_, inl, inr, ⊎-elim}, Bool.{Bool, true, _&&_, cond, and-assoc}, List.List}
 use lib.Dec.{eqb}
 use Rattle.layout.specs.{Rules.{standard, hidden, placeRule, sectorsRule, dataAreaRule}, declared.Layout.Layout}
-use Rattle.numbers.specs.Bytes.{part, allZero}
+use Rattle.fields.specs.Bytes.{part, allZero}
 use Rattle.header.specs.Header.{fieldsOf, acceptedLayout}
 use Rattle.header.specs.Header.{versionRule, reservedRule, flagsRule, sectorSizeRule, hiddenSizeRule, areaRule}
 use Rattle.guarantees.specs.Header.{KnownKind, IsVera, IsTrue, version, reserved, flags, sectorSize, hiddenSize, dataArea, DataArea, Keeps}

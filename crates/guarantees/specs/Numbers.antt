@@ -3,9 +3,9 @@
 use Prim.Native.Nat.{ℕ, _+_, _*_, _/_, _%_, _^_, _≤_, _<_}
 use mathlib.Core.{Path._≡_, Logic._↔_, Bool.{true, cond}, List.{List, [], _∷_, _++_, reverse}}
 use lib.{Bits.bitXor, Dec.eqb, ListN.{length, getD, take, drop}}
-use Rattle.numbers.specs.Bytes.{fieldPart, sameBytes, allZero}
+use Rattle.fields.specs.Bytes.{fieldPart, sameBytes, allZero}
 use Rattle.numbers.specs.Numbers.{bigEndian, bigEndianBytes, littleEndian, littleEndianBytes, ReadAs}
-use Rattle.numbers.specs.declared.Field.{Field}
+use Rattle.fields.specs.declared.Field.{Field}
 use Rattle.crc32.specs.Crc32.{crc32}
 
 -- every byte is zero

@@ -3,7 +3,8 @@
 use Prim.Native.Nat.{ℕ, _-_, _/_, _%_}
 use mathlib.Core.{Bool.{Bool, true, _&&_, not, cond}, List.{List, [], _∷_}}
 use lib.{Dec.{leb, eqb}, ListN.length}
-use Rattle.numbers.specs.{Bytes.{fieldPart, sameBytes, allZero}, Numbers.{bigEndian, littleEndian}, declared.Field.Field}
+use Rattle.fields.specs.{Bytes.{fieldPart, sameBytes, allZero}, declared.Field.Field}
+use Rattle.numbers.specs.Numbers.{bigEndian, littleEndian}
 use Rattle.crc32.specs.Crc32.{crc32}
 use Rattle.answers.specs.Answers.{line}
 use Rattle.layout.specs.{Rules.{standard, hidden, dataAreaRule}, declared.{Layout.Layout, Opened.Opened}}

@@ -3,14 +3,14 @@
 ghost use mathlib.Core.Bool.{true};
 ghost use mathlib.Core.Path.{_≡_};
 ghost use Prim.Native.Nat.{_≤_};
-ghost use Rattle.numbers.specs.Bytes.{fieldPart};
+ghost use Rattle.fields.specs.Bytes.{fieldPart};
 ghost use Rattle.numbers.specs.Numbers.{bigEndian};
 ghost use Rattle.header.specs.Header.{magicOf, fieldsOf, checksumsMatch, isHeader};
 ghost use Rattle.header.specs.Header.{versionRule, reservedRule, hiddenSizeRule, areaRule};
 ghost use Rattle.header.specs.Header.{acceptedLayout, judge as judgement};
+use fields::Field;
 use layout::Layout;
 use layout::Opened;
-use numbers::Field;
 
 mod places;
 
@@ -61,11 +61,11 @@ pub fn judge(candidate: &[u8], kind: u64, host_size: u64, index: u64) -> Opened
 fn magic_of(candidate: &[u8]) -> u64
     ensures { λ r. ⌜ r ≡ magicOf (now (candidate .entry)) ⌝ }
 {
-    let magic = numbers::field_bytes(candidate, places::MAGIC);
-    if numbers::same_bytes(magic, b"VERA") {
+    let magic = fields::field_bytes(candidate, places::MAGIC);
+    if fields::same_bytes(magic, b"VERA") {
         return VERA;
     }
-    if numbers::same_bytes(magic, b"TRUE") {
+    if fields::same_bytes(magic, b"TRUE") {
         return TRUE;
     }
     NEITHER
@@ -76,8 +76,8 @@ fn checksums_match(candidate: &[u8]) -> bool
     ensures { λ r. ⌜ r ≡ checksumsMatch (now (candidate .entry)) ⌝ }
 {
     let checksums = crc32::checksum_pair(
-        numbers::field_bytes(candidate, places::KEYS),
-        numbers::field_bytes(candidate, places::CHECKED),
+        fields::field_bytes(candidate, places::KEYS),
+        fields::field_bytes(candidate, places::CHECKED),
     );
     if checksums[0] as u64 != number(candidate, places::KEY_CHECKSUM) {
         return false;
@@ -90,7 +90,7 @@ fn number(candidate: &[u8], field: Field) -> u64
     requires { ⌜ field .size ≤ 8 ⌝ }
     ensures { λ r. ⌜ r ≡ bigEndian (fieldPart field (now (candidate .entry))) ⌝ }
 {
-    numbers::read_big_endian(numbers::field_bytes(candidate, field))
+    numbers::read_big_endian(fields::field_bytes(candidate, field))
 }
 
 fn read_fields(candidate: &[u8]) -> Fields
@@ -98,7 +98,7 @@ fn read_fields(candidate: &[u8]) -> Fields
 {
     Fields {
         version: number(candidate, places::VERSION),
-        min_program_version: numbers::read_little_endian(numbers::field_bytes(
+        min_program_version: numbers::read_little_endian(fields::field_bytes(
             candidate,
             places::MIN_PROGRAM_VERSION,
         )),
@@ -162,10 +162,10 @@ fn keeps_reserved(candidate: &[u8], magic: u64, flags: u64) -> bool
     if magic != VERA {
         return true;
     }
-    if !numbers::is_zero(numbers::field_bytes(candidate, places::RESERVED)) {
+    if !fields::is_zero(fields::field_bytes(candidate, places::RESERVED)) {
         return false;
     }
-    numbers::is_zero(numbers::field_bytes(candidate, places::MORE_RESERVED))
+    fields::is_zero(fields::field_bytes(candidate, places::MORE_RESERVED))
 }
 
 fn keeps_hidden_size(kind: u64, hidden_size: u64, data_size: u64) -> bool

@@ -1,5 +1,5 @@
 // Where each field of a header stands (RULES.md, Header bytes).
-use numbers::Field;
+use fields::Field;
 
 pub const MAGIC: Field = Field {
     offset: 64,

@@ -2,7 +2,8 @@
 use Prim.Native.Nat.{ℕ}
 use mathlib.Core.{Bool.cond, List.List}
 use lib.{Dec.eqb, ListN.length}
-use Rattle.numbers.specs.{Numbers.bigEndian, Bytes.part}
+use Rattle.fields.specs.Bytes.{part}
+use Rattle.numbers.specs.Numbers.{bigEndian}
 use Rattle.layout.specs.declared.Opened.{Opened, the-variants.Refused}
 use Rattle.opening.specs.Opening.{opened}
 

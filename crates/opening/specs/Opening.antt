@@ -5,7 +5,7 @@ use mathlib.Core.{Path._鈮, Bool.{Bool, true, _&&_, cond}, List.{List, [], _鈭
 use lib.{Dec.{leb, eqb}, ListN.length}
 use Rattle路answers.specs.Answers.{line}
 use Rattle路layout.specs.{Rules.hostSizeRule, declared.Opened.{Opened, the-variants.{Accepted, Refused}}}
-use Rattle路numbers.specs.Bytes.{part}
+use Rattle路fields.specs.Bytes.{part}
 use Rattle路header.specs.Header.{headerBytes, keysField, judge}
 use Rattle路locations.specs.Locations.{codeRule, locationOf}
 

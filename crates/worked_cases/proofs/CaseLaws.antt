@@ -2,7 +2,7 @@
 -- Assumes nothing.
 use mathlib.Core.{Path.{_≡_, refl}, List.map}
 use Rattle.numbers.specs.Numbers.{bigEndian, bigEndianFrom, bigEndianBytes, littleEndian, littleEndianBytes}
-use Rattle.numbers.specs.Bytes.{sameBytes, allZero}
+use Rattle.fields.specs.Bytes.{sameBytes, allZero}
 use Rattle.crc32.specs.Crc32.{crc32, crcFrom, bitSteps, bitStep}
 use Rattle.layout.specs.Rules.{hostSizeRule, placeRule, sectorsRule, dataAreaRule, sound}
 use Rattle.header.specs.Header.{magicOf, fieldsOf, checksumsMatch, isHeader, acceptedLayout, judge}

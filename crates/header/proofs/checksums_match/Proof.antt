@@ -4,7 +4,7 @@ use mathlib.Core.{Path.{_≡_, ap₂, _∙_}, List.{List, [], _∷_}}
 use Prim.Native.Nat.{ℕ}
 use denote.Ref.{now}
 use borrow.Author.Tests.{eq-eqb, ne-eqb}
-use Rattle.numbers.specs.Bytes.{fieldPart}
+use Rattle.fields.specs.Bytes.{fieldPart}
 use Rattle.crc32.specs.Crc32.{crc32}
 use Rattle.header.specs.Header.{keysField, checkedField, checksumsMatch}
 use borrow.Author.Needs.{needs}

@@ -2,7 +2,7 @@
 -- Assumes nothing.
 use mathlib.Core.Path.{_≡_, sym, ap, _∙_}
 use denote.Ref.{now}
-use Rattle.numbers.specs.Bytes.{fieldPart, allZero}
+use Rattle.fields.specs.Bytes.{fieldPart, allZero}
 use borrow.Author.Tests.{eq-eqb, ne-eqb, not-true, not-false}
 use Rattle.header.specs.Header.{reservedField, reservedRule}
 use borrow.Author.Needs.{needs}

@@ -3,7 +3,7 @@
 use mathlib.Core.{Path.{_≡_, sym, ap, _∙_}, List.List}
 use Prim.Native.Nat.{ℕ}
 use denote.Ref.{now}
-use Rattle.numbers.specs.Bytes.{fieldPart, sameBytes}
+use Rattle.fields.specs.Bytes.{fieldPart, sameBytes}
 use Rattle.header.specs.Header.{magicField, veraMagic, trueMagic, magicOf}
 use borrow.Author.Needs.{needs}
 use Rattle.header.proofs.magic_of.Statement.{statement}

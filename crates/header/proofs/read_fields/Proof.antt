@@ -4,7 +4,8 @@ use native.Mathlib.Omega.{arith}
 use mathlib.Core.Path.{_≡_}
 use lib.ListN.{length-take}
 use denote.Ref.{now}
-use Rattle.numbers.specs.{Numbers.{bigEndian, littleEndian}, Bytes.fieldPart}
+use Rattle.numbers.specs.Numbers.{bigEndian, littleEndian}
+use Rattle.fields.specs.Bytes.{fieldPart}
 use Rattle.header.specs.Header.{versionField, minProgramVersionField, hiddenSizeField, dataSizeField, dataStartField}
 use Rattle.header.specs.Header.{encryptedSizeField, flagsField, sectorSizeField, fieldsOf}
 use borrow.Author.Needs.{needs}

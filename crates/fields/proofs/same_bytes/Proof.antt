@@ -1,4 +1,4 @@
--- `numbers::same_bytes` meets its contract. The loop's invariant: what is left decides the test of the whole.
+-- `fields::same_bytes` meets its contract. The loop's invariant: what is left decides the test of the whole.
 -- Assumes nothing.
 use denote.Ref.{now}
 use Prim.Native.Nat.{_≤_, _-_}
@@ -7,10 +7,10 @@ use native.Mathlib.Omega.{arith}
 use borrow.Author.Needs.{needs}
 use lib.ListN.{length, drop}
 use borrow.Author.Tests.{eq-eqb, ne-eqb}
-use Rattle.numbers.specs.Bytes.{sameBytes}
-use Rattle.numbers.proofs.BytesLaws.{same-bytes-length, same-bytes-drop, same-bytes-end}
-use Rattle.numbers.proofs.same_bytes.Statement.{statement}
-use Rattle.numbers.proofs.same_bytes.Tie as tie
+use Rattle.fields.specs.Bytes.{sameBytes}
+use Rattle.fields.proofs.BytesLaws.{same-bytes-length, same-bytes-drop, same-bytes-end}
+use Rattle.fields.proofs.same_bytes.Statement.{statement}
+use Rattle.fields.proofs.same_bytes.Tie as tie
 
 abbrev Inv-loop : tie.InvT-loop
 Inv-loop a b same₀ same = (same ≤ length a) × (sameBytes (drop same a) (drop same b) ≡ sameBytes a b)

@@ -1,10 +1,10 @@
--- `numbers::field_bytes` meets its contract: where the bytes end, the part is cut as `take` and `drop` cut it.
+-- `fields::field_bytes` meets its contract: where the bytes end, the part is cut as `take` and `drop` cut it.
 -- Assumes nothing.
 use borrow.Author.Needs.{needs}
 use denote.Ref.{now}
-use Rattle.numbers.proofs.BytesLaws.{part-cut}
-use Rattle.numbers.proofs.field_bytes.Statement.{statement}
-use Rattle.numbers.proofs.field_bytes.Tie as tie
+use Rattle.fields.proofs.BytesLaws.{part-cut}
+use Rattle.fields.proofs.field_bytes.Statement.{statement}
+use Rattle.fields.proofs.field_bytes.Tie as tie
 
 smaller-requires : tie.Need-smaller-requires
 smaller-requires c κs = search needs

@@ -1,4 +1,4 @@
--- `numbers::is_zero` meets its contract. The loop's invariant: what is left decides the test of the whole.
+-- `fields::is_zero` meets its contract. The loop's invariant: what is left decides the test of the whole.
 -- Assumes nothing.
 use denote.Ref.{now}
 use Prim.Native.Nat.{_≤_, _-_}
@@ -7,10 +7,10 @@ use native.Mathlib.Omega.{arith}
 use borrow.Author.Needs.{needs}
 use lib.ListN.{length, drop}
 use borrow.Author.Tests.{eq-eqb, ne-eqb}
-use Rattle.numbers.specs.Bytes.{allZero}
-use Rattle.numbers.proofs.BytesLaws.{all-zero-drop, all-zero-end}
-use Rattle.numbers.proofs.is_zero.Statement.{statement}
-use Rattle.numbers.proofs.is_zero.Tie as tie
+use Rattle.fields.specs.Bytes.{allZero}
+use Rattle.fields.proofs.BytesLaws.{all-zero-drop, all-zero-end}
+use Rattle.fields.proofs.is_zero.Statement.{statement}
+use Rattle.fields.proofs.is_zero.Tie as tie
 
 abbrev Inv-loop : tie.InvT-loop
 Inv-loop bytes zeros₀ zeros = (zeros ≤ length bytes) × (allZero (drop zeros bytes) ≡ allZero bytes)

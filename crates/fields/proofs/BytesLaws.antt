@@ -6,7 +6,7 @@ use native.Mathlib.Numerals.{add-one}
 use native.Mathlib.Omega.{arith}
 use mathlib.Core.{Path.{_≡_, refl, sym, ap, _∙_}, Bool.{true, false, _&&_, and-false}, List.{List, [], _∷_}}
 use lib.{Dec.eqb, ListN.{length, getD, take, drop, length-drop, drop-of-length-le}, Seq.drop-cons}
-use Rattle.numbers.specs.Bytes.{sameBytes, allZero}
+use Rattle.fields.specs.Bytes.{sameBytes, allZero}
 
 -- ---- parts that reach past the end
 

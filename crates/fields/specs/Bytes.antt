@@ -2,7 +2,7 @@
 use Prim.Native.Nat.{ℕ}
 use mathlib.Core.{Bool.{Bool, true, false, _&&_}, List.{List, [], _∷_}}
 use lib.{Dec.eqb, ListN.{take, drop}}
-use Rattle.numbers.specs.declared.Field.{Field}
+use Rattle.fields.specs.declared.Field.{Field}
 
 -- the size bytes from an offset on; what would lie past the end is left out
 abbrev pub part : ℕ → ℕ → List ℕ → List ℕ
