@@ -8,8 +8,9 @@ use Rattle.answers.specs.declared.Numbered.the-variants as numbered
 use Rattle.layout.specs.declared.{Layout.Layout, Opened.Opened}
 use Rattle.layout.specs.declared.Opened.the-variants as opened
 use Rattle.protection.specs.declared.Protection.{Protection, the-variants.{Unprotected, Protected}}
-use Rattle.view.specs.declared.{View.View, Viewed.Viewed}
-use Rattle.view.specs.declared.Viewed.the-variants as viewed
+use Rattle.view.specs.declared.View.{View}
+use Rattle.making.specs.declared.Viewed.{Viewed}
+use Rattle.making.specs.declared.Viewed.the-variants as viewed
 
 -- how many numbers a layout has
 abbrev pub layoutSize : ℕ

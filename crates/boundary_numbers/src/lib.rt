@@ -8,15 +8,15 @@ ghost use Prim.Native.Nat.{_≤_};
 ghost use lib.ListN.{length, drop};
 ghost use Rattle.answers.specs.Answers.{numberedRefusal};
 ghost use Rattle.layout.specs.Opened.{openedRefusal};
-ghost use Rattle.view.specs.Views.{viewedRefusal};
+ghost use Rattle.making.specs.Views.{viewedRefusal};
 ghost use Rattle.boundary_numbers.specs.BoundaryNumbers.{layoutSize, layoutNumbers, layoutFrom, protectionNumbers, protectionFrom};
 ghost use Rattle.boundary_numbers.specs.BoundaryNumbers.{viewNumbers, viewFrom, numberedLeft, openedLeft, viewedLeft};
 use answers::Numbered;
 use layout::Layout;
 use layout::Opened;
+use making::Viewed;
 use protection::Protection;
 use view::View;
-use view::Viewed;
 
 // How many numbers a layout has, and a view: its layout's, the three of its protection, and the lock.
 pub const LAYOUT_SIZE: usize = 8;

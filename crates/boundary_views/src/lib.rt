@@ -2,7 +2,7 @@
 // changes nothing.
 // Assumes nothing; no public function has a `requires`.
 ghost use mathlib.Core.Path.{_≡_};
-ghost use Rattle.view.specs.Views.{plainView, protectedView, viewedRefusal};
+ghost use Rattle.making.specs.Views.{plainView, protectedView, viewedRefusal};
 ghost use Rattle.boundary_numbers.specs.BoundaryNumbers.{layoutFrom, viewedLeft};
 use boundary_numbers::LAYOUT_SIZE;
 use boundary_numbers::VIEW_SIZE;
@@ -13,7 +13,7 @@ pub fn plain(layout: &[u64; LAYOUT_SIZE], view: &mut [u64; VIEW_SIZE]) -> u64
     ensures { λ _. ⌜ now (view .exit) ≡ viewedLeft (plainView (layoutFrom (now (layout .entry)))) (now (view .entry)) ⌝ }
 {
     let told = boundary_numbers::layout_from(layout);
-    boundary_numbers::give_view(view::plain(told), view)
+    boundary_numbers::give_view(making::plain(told), view)
 }
 
 // A view of an outer volume whose writes may not touch a hidden volume's data area, its lock open.
@@ -27,5 +27,5 @@ pub fn protected(
 {
     let around = boundary_numbers::layout_from(outer);
     let within = boundary_numbers::layout_from(hidden);
-    boundary_numbers::give_view(view::protected(around, within), view)
+    boundary_numbers::give_view(making::protected(around, within), view)
 }

@@ -9,7 +9,7 @@ use Rattle.layout.specs.Opened.{openedRefusal}
 use Rattle.opening.specs.Opening.{keysOffset, keysSize}
 use Rattle.opening.proofs.OpenedLaws.{opened-inside}
 use Rattle.sector_map.specs.SectorMap.{tweakOf, tweakNumber}
-use Rattle.view.specs.Views.{viewedRefusal}
+use Rattle.making.specs.Views.{viewedRefusal}
 use Rattle.protection.specs.declared.Protection.{Protection, the-variants.{Unprotected, Protected}}
 use Rattle.boundary_numbers.specs.BoundaryNumbers.{layoutNumbers, layoutFrom, protectionNumbers, protectionFrom, viewNumbers, viewFrom}
 use Rattle.boundary_numbers.specs.BoundaryNumbers.{numberedLeft, openedLeft, viewedLeft, blockLeft}

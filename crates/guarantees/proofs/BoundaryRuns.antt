@@ -7,7 +7,8 @@ use borrow.Author.Tests.{ne-eqb}
 use Rattle.judgement.proofs.JudgingLaws.{read-holds, write-holds}
 use Rattle.answers.specs.{Answers.answerRefusal, declared.Answer.{Answer, the-variants.{Accepted, Refused}}}
 use Rattle.layout.specs.declared.Layout.{Layout}
-use Rattle.view.specs.{Outcomes.{viewRead, viewWrite}, declared.{View.View, Viewed.the-variants.Made}}
+use Rattle.view.specs.{Outcomes.{viewRead, viewWrite}, declared.View.View}
+use Rattle.making.specs.declared.Viewed.the-variants.{Made}
 use Rattle.protection.specs.declared.Protection.{Protection, the-variants.{Unprotected, Protected}}
 use Rattle.boundary_numbers.specs.BoundaryNumbers.{viewFrom, viewedLeft}
 use Rattle.boundary_access.specs.BoundaryAccess.{viewLeft}

@@ -13,8 +13,8 @@ use Rattle.opening.specs.Opening.{searched, opened}
 use Rattle.sector_map.specs.SectorMap.{sectors, firstSector, hostSector, userSector}
 use Rattle.judgement.proofs.JudgingLaws.{read-holds, write-holds}
 use Rattle.protection.specs.Protection.{nests, pairAnswer}
-use Rattle.view.specs.{Outcomes.{viewRead, viewWrite}, Views.{madeBy, plainView, protectedView, viewedRefusal}}
-use Rattle.view.specs.declared.{View.View, Viewed.the-variants.Made}
+use Rattle.view.specs.{Outcomes.{viewRead, viewWrite}, declared.View.View}
+use Rattle.making.specs.{Views.{madeBy, plainView, protectedView, viewedRefusal}, declared.Viewed.the-variants.Made}
 use Rattle.answers.specs.declared.Answer.the-variants as access
 use Rattle.guarantees.specs.{Boundary.ZeroAccepts, Header.number, Opening.{Lengths, Codes, HostSize}}
 use Rattle.guarantees.proofs.Reflects.{Reflects, holds, fails}

@@ -2,7 +2,7 @@
 -- Assumes nothing.
 use Rattle.layout.specs.declared.Layout.{Layout}
 use Rattle.protection.specs.Protection.{areaEnd, pairAnswer}
-use Rattle.view.specs.Views.{plainOf, protectedOf, madeBy, plainView, protectedView}
+use Rattle.making.specs.Views.{plainOf, protectedOf, madeBy, plainView, protectedView}
 use Rattle.guarantees.specs.Views.{MakesViews}
 use Rattle.guarantees.proofs.Reflects.{is-true, is-false, reflects-and}
 use Rattle.guarantees.proofs.SoundLaws.{sound-reflects}

@@ -12,11 +12,11 @@ use Rattle.opening.specs.Opening.{opened}
 use Rattle.sector_map.specs.SectorMap.{hostSector, userSector, tweakOf}
 use Rattle.answers.specs.declared.Numbered.the-variants as numbered
 use Rattle.view.specs.Outcomes.{viewRead, viewWrite, ReadPost, WritePost}
-use Rattle.view.specs.Views.{plainView, protectedView, viewedRefusal}
+use Rattle.making.specs.Views.{plainView, protectedView, viewedRefusal}
 use Rattle.answers.specs.declared.Answer.the-variants as access
 use Rattle.view.specs.declared.{Outcome.Outcome, View.View}
 use Rattle.protection.specs.declared.Protection.{Protection, the-variants.{Unprotected, Protected}}
-use Rattle.view.specs.declared.Viewed.the-variants as making
+use Rattle.making.specs.declared.Viewed.the-variants as making
 use Rattle.boundary_numbers.specs.BoundaryNumbers.{layoutFrom, viewFrom, numberedLeft, openedLeft, viewedLeft, blockLeft}
 use Rattle.boundary_opening.specs.BoundaryOpening.{keysLeft}
 use Rattle.boundary_access.specs.BoundaryAccess.{WriteCall}

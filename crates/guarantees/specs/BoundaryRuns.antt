@@ -5,7 +5,7 @@ use mathlib.Core.{Path._≡_, Bool.{false, cond}, List.{List, map}}
 use lib.{Dec.eqb, ListN.length}
 use Rattle.answers.specs.declared.Answer.{Answer, the-variants.{Accepted, Refused}}
 use Rattle.layout.specs.declared.Layout.{Layout}
-use Rattle.view.specs.Views.{plainView, protectedView}
+use Rattle.making.specs.Views.{plainView, protectedView}
 use Rattle.view.specs.declared.View.{View}
 use Rattle.boundary_numbers.specs.BoundaryNumbers.{viewFrom, viewedLeft}
 use Rattle.boundary_access.specs.BoundaryAccess.{ReadCall, WriteCall}

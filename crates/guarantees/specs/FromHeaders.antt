@@ -4,8 +4,8 @@ use Prim.Native.Nat.{ℕ, _+_, _≤_}
 use mathlib.Core.{Path._≡_, Bool.{Bool, false}, List.{List, [], _∷_}}
 use Rattle.layout.specs.declared.{Layout.Layout, Opened.the-variants.Accepted}
 use Rattle.opening.specs.Opening.{opened}
-use Rattle.view.specs.Views.{plainView, protectedView}
-use Rattle.view.specs.declared.Viewed.the-variants.{Made}
+use Rattle.making.specs.Views.{plainView, protectedView}
+use Rattle.making.specs.declared.Viewed.the-variants.{Made}
 use Rattle.model.specs.{Model.State, Sides.Both}
 use Rattle.guarantees.specs.{Header.fieldsAt, Interleaving.Interleaved, Opening.kindOf, Table.Call}
 use Rattle.guarantees.specs.Views.{plain, protecting}

@@ -1,12 +1,13 @@
 -- Views (RULES.md, Views): when one is sound, from which layouts one is made, and what it then is, field by field.
--- `plainView` and `protectedView` are the definitions that the contracts of `view::plain` and `view::protected` cite. Assumes nothing.
+-- `plainView` and `protectedView` are the definitions that the contracts of `making::plain` and `making::protected` cite. Assumes nothing.
 use Prim.Native.Nat.{ℕ, _+_, _%_, _≤_, _<_}
 use mathlib.Core.{Path._≡_, Bool.{Bool, false}}
 use Rattle.layout.specs.Rules.{standard, hidden}
 use Rattle.layout.specs.declared.Layout.{Layout}
-use Rattle.view.specs.Views.{plainView, protectedView}
+use Rattle.making.specs.Views.{plainView, protectedView}
 use Rattle.protection.specs.declared.Protection.{Protection, the-variants.{Unprotected, Protected}}
-use Rattle.view.specs.declared.{View.View, Viewed.the-variants.{Made, Refused}}
+use Rattle.view.specs.declared.View.{View}
+use Rattle.making.specs.declared.Viewed.the-variants.{Made, Refused}
 use Rattle.guarantees.specs.SectorMap.{Sound}
 
 -- a volume's view that protects nothing

@@ -10,7 +10,7 @@ ghost use Rattle.layout.specs.Opened.{openedRefusal};
 ghost use Rattle.locations.specs.Locations.{located};
 ghost use Rattle.opening.specs.Opening.{opened};
 ghost use Rattle.sector_map.specs.SectorMap.{hostSector, userSector, tweakOf};
-ghost use Rattle.view.specs.Views.{plainView, protectedView, viewedRefusal};
+ghost use Rattle.making.specs.Views.{plainView, protectedView, viewedRefusal};
 ghost use Rattle.boundary_numbers.specs.BoundaryNumbers.{layoutFrom, numberedLeft, openedLeft, viewedLeft, blockLeft};
 ghost use Rattle.boundary_opening.specs.BoundaryOpening.{keysLeft};
 ghost use Rattle.boundary_access.specs.BoundaryAccess.{ReadCall, WriteCall, ReadExtentCall, WriteExtentCall};

@@ -14,7 +14,8 @@ use Rattle.judgement.specs.Judging.{checked, apartAnswer, lockAnswer, readAnswe
 use Rattle.answers.specs.Answers.{answerRefusal}
 use Rattle.extent.specs.Extents.{has, larger, overlap}
 use Rattle.protection.specs.Protection.{areaEnd, protectionRule, soundProtection, protectedExtent, nests, pairAnswer}
-use Rattle.view.specs.{Outcomes.after, Views.{plainOf, protectedOf, madeBy, plainView, protectedView}}
+use Rattle.view.specs.Outcomes.{after}
+use Rattle.making.specs.Views.{plainOf, protectedOf, madeBy, plainView, protectedView}
 use Rattle.map_output.specs.Decimal.{digits, decimal}
 use Rattle.map_output.specs.MapOutput.{textLine, numberLine, eitherLine, magicLine, kindLine, headerLines, areaLines, sectorLines, lastSector, layoutLines}
 use Rattle.guarantees.specs.MapProgram.{letters}

@@ -14,9 +14,10 @@ use Rattle.sector_map.specs.SectorMap.{hostSector, userSector, tweakOf}
 use Rattle.answers.specs.declared.Numbered.the-variants as mapped
 use Rattle.sector_map.specs.declared.Tweak.{Tweak}
 use Rattle.view.specs.Outcomes.{viewRead, viewWrite, after}
-use Rattle.view.specs.Views.{plainView, protectedView}
-use Rattle.view.specs.declared.{View.View, Viewed.Viewed}
-use Rattle.view.specs.declared.Viewed.the-variants as viewed
+use Rattle.making.specs.Views.{plainView, protectedView}
+use Rattle.view.specs.declared.View.{View}
+use Rattle.making.specs.declared.Viewed.{Viewed}
+use Rattle.making.specs.declared.Viewed.the-variants as viewed
 use Rattle.map_output.specs.MapOutput.{layoutLines}
 use Rattle.guarantees.specs.MapProgram.{letters}
 

@@ -1,7 +1,7 @@
 -- `boundary_numbers::give_view` meets its contract, by the cases of the answer.
 -- Assumes nothing.
 use mathlib.Core.Path.{refl}
-use Rattle.view.specs.Views.{viewedRefusal}
+use Rattle.making.specs.Views.{viewedRefusal}
 use Rattle.boundary_numbers.specs.BoundaryNumbers.{viewedLeft}
 use borrow.Author.Needs.{needs}
 use Rattle.boundary_numbers.proofs.give_view.Statement.{statement}

@@ -1,6 +1,6 @@
 -- `boundary_views::plain` meets its contract.
 -- Assumes nothing.
-use Rattle.view.specs.Views.{plainView, viewedRefusal}
+use Rattle.making.specs.Views.{plainView, viewedRefusal}
 use Rattle.boundary_numbers.specs.BoundaryNumbers.{viewedLeft}
 use Rattle.boundary_numbers.proofs.GivenLaws.{given-for}
 use borrow.Author.Needs.{needs}

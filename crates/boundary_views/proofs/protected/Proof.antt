@@ -1,7 +1,7 @@
 -- `boundary_views::protected` meets its contract.
 -- Assumes nothing.
 use Rattle.layout.specs.declared.Layout.{Layout}
-use Rattle.view.specs.Views.{protectedView, viewedRefusal}
+use Rattle.making.specs.Views.{protectedView, viewedRefusal}
 use Rattle.boundary_numbers.specs.BoundaryNumbers.{viewedLeft}
 use Rattle.boundary_numbers.proofs.GivenLaws.{given-for}
 use borrow.Author.Needs.{needs}

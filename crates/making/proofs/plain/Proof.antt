@@ -1,11 +1,11 @@
--- `view::plain` meets its contract.
+-- `making::plain` meets its contract.
 -- Assumes nothing.
 use mathlib.Core.Path.{sym, _∙_}
 use borrow.Author.Tests.{not-true, not-false}
-use Rattle.view.specs.Views.{plainView, plainOf}
+use Rattle.making.specs.Views.{plainView, plainOf}
 use borrow.Author.Needs.{needs}
-use Rattle.view.proofs.plain.Statement.{statement}
-use Rattle.view.proofs.plain.Tie as tie
+use Rattle.making.proofs.plain.Statement.{statement}
+use Rattle.making.proofs.plain.Tie as tie
 
 is-sound-requires : tie.Need-is-sound-requires
 is-sound-requires c κs = search needs

@@ -1,13 +1,13 @@
--- `view::protected` meets its contract: the pair's answer decides, and a sound layout ends far below 2^64.
+-- `making::protected` meets its contract: the pair's answer decides, and a sound layout ends far below 2^64.
 -- Assumes nothing.
 use native.Mathlib.Omega.{arith}
 use borrow.Author.Needs.{needs}
 use Rattle.layout.proofs.RuleLaws.{sound-end-le}
 use Rattle.protection.specs.Protection.{areaEnd}
 use Rattle.protection.proofs.ProtectionLaws.{pair-hidden-sound}
-use Rattle.view.specs.Views.{protectedView, protectedOf, madeBy}
-use Rattle.view.proofs.protected.Statement.{statement}
-use Rattle.view.proofs.protected.Tie as tie
+use Rattle.making.specs.Views.{protectedView, protectedOf, madeBy}
+use Rattle.making.proofs.protected.Statement.{statement}
+use Rattle.making.proofs.protected.Tie as tie
 
 check-pair-requires : tie.Need-check-pair-requires
 check-pair-requires c κs = search needs

@@ -1,10 +1,10 @@
--- `view::refusal` meets its contract, by the cases of the answer.
+-- `making::refusal` meets its contract, by the cases of the answer.
 -- Assumes nothing.
 use mathlib.Core.Path.{refl}
 use borrow.Author.Needs.{needs}
-use Rattle.view.specs.Views.{viewedRefusal}
-use Rattle.view.proofs.refusal.Statement.{statement}
-use Rattle.view.proofs.refusal.Tie as tie
+use Rattle.making.specs.Views.{viewedRefusal}
+use Rattle.making.proofs.refusal.Statement.{statement}
+use Rattle.making.proofs.refusal.Tie as tie
 
 enum-told : tie.Need-enum-told
 enum-told c = search needs

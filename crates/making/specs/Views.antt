@@ -5,7 +5,8 @@ use Rattle.answers.specs.{Answers.line, declared.Answer.Answer}
 use Rattle.answers.specs.declared.Answer.the-variants as answer
 use Rattle.layout.specs.{Rules.sound, declared.Layout.Layout}
 use Rattle.protection.specs.{Protection.{areaEnd, pairAnswer}, declared.Protection.the-variants.{Unprotected, Protected}}
-use Rattle.view.specs.declared.{View.View, Viewed.{Viewed, the-variants.{Made, Refused}}}
+use Rattle.view.specs.declared.View.{View}
+use Rattle.making.specs.declared.Viewed.{Viewed, the-variants.{Made, Refused}}
 
 -- a layout's view with no protected range
 unfoldable pub plainOf : Layout → Bool → View

@@ -1,0 +1,57 @@
+// How a view of a volume is made: alone, or with a hidden volume protected.
+// Assumes nothing; no function has a `requires`.
+ghost use mathlib.Core.Path.{_≡_};
+ghost use Rattle.making.specs.Views.{plainView, protectedView, viewedRefusal};
+use answers::Answer;
+use layout::Layout;
+use protection::Protection;
+use view::View;
+
+// A view, or a refusal number.
+pub enum Viewed {
+    Made(View),
+    Refused(u8),
+}
+
+// The refusal number of a view's making, 0 where it is a view.
+pub fn refusal(viewed: Viewed) -> u8
+    ensures { λ r. ⌜ r ≡ viewedRefusal viewed ⌝ }
+{
+    match viewed {
+        Viewed::Made(_) => 0,
+        Viewed::Refused(number) => number,
+    }
+}
+
+// A view of a volume alone. Refuses 11 for a layout that is not sound.
+pub fn plain(layout: Layout) -> Viewed
+    ensures { λ r. ⌜ r ≡ plainView layout ⌝ }
+{
+    if !layout::is_sound(layout) {
+        return Viewed::Refused(11);
+    }
+    Viewed::Made(View {
+        layout,
+        protection: Protection::Unprotected,
+        locked: false,
+    })
+}
+
+// A view of an outer volume whose writes may not touch a hidden volume's data area. Refuses 11 where
+// either layout is not sound, then 12 where the two do not nest.
+pub fn protected(outer: Layout, hidden: Layout) -> Viewed
+    ensures { λ r. ⌜ r ≡ protectedView outer hidden ⌝ }
+{
+    let answer = protection::check_pair(outer, hidden);
+    match answer {
+        Answer::Accepted => {
+            let end = hidden.data_start + hidden.data_size;
+            Viewed::Made(View {
+                layout: outer,
+                protection: Protection::Protected(hidden.data_start, end),
+                locked: false,
+            })
+        }
+        Answer::Refused(number) => Viewed::Refused(number),
+    }
+}
