@@ -3,27 +3,23 @@
 use Prim.Native.Nat.{ℕ, _+_, _-_, _*_, _≤_}
 use native.Mathlib.Omega.{arith}
 use native.Mathlib.Nat.{add-sub-cancel-left}
-use mathlib.Core.{Path.{_≡_, refl, sym, ap, _∙_}, List.{List, _++_, append-nil, append-assoc}}
-use lib.{ListN.{length, take, drop, drop-of-length-le, length-drop}, Seq.{take-all, length-take-le, drop-drop}}
+use mathlib.Core.{Path.{_≡_, refl, sym, ap, _∙_}, List.{List, _++_, append-nil}}
+use lib.{ListN.{length, take, drop, drop-of-length-le, length-take, length-drop}, Seq.length-take-le}
 use borrow.Author.Tests.{le-leb}
 use borrow.Rule.Slice.PartMut.{putMid}
 use Rattle.answers.specs.{Answers.isAccepted, declared.Answer.{Answer, the-variants.{Accepted, Refused}}}
+use Rattle.fields.specs.Bytes.{overlay}
+use Rattle.fields.proofs.OverlayLaws.{overlay-rest}
 use Rattle.copy.specs.Copy.{maxSize, copied}
 use Rattle.layout.specs.{Rules.sectorBytes, declared.Layout.Layout}
 use Rattle.judgement.specs.Offsets.{extentStart}
-use Rattle.access.specs.Moving.{overlay, filledBy, writtenBy}
+use Rattle.access.specs.Moving.{filledBy, writtenBy}
 
 -- a part of an image that starts at an offset
 part-length : (image : List ℕ) (size offset : ℕ) → offset + size ≤ length image → length (take size (drop offset image)) ≡ size
 part-length image size offset h =
     let fits : size ≤ length (drop offset image) = simp length-drop (omega arith) in
     length-take-le size (drop offset image) fits
-
--- all that an image has from an offset on
-take-rest : (image : List ℕ) (offset : ℕ) → take (length image - offset) (drop offset image) ≡ drop offset image
-take-rest image offset =
-    let whole : length (drop offset image) ≤ length image - offset = simp length-drop (omega arith) in
-    take-all (length image - offset) (drop offset image) whole
 
 -- a source that fits is copied
 copied-fits : (source target : List ℕ) → length source ≤ maxSize → length source ≤ length target
@@ -46,13 +42,10 @@ copy-out image buffer offset small fits =
 pub copy-in : (image buffer : List ℕ) (offset : ℕ) → length buffer ≤ maxSize → offset + length buffer ≤ length image
     → putMid offset (length image - offset) image (copied buffer (take (length image - offset) (drop offset image)))
     ≡ overlay offset buffer image
-unfolding overlay
 copy-in image buffer offset small fits =
-    let rest = drop offset image in
-    let room : length buffer ≤ length rest = simp length-drop (omega arith) in
-    let none : length rest ≤ length image - offset = simp length-drop (omega arith) in
-    ap (putMid offset (length image - offset) image) (ap (copied buffer) (take-rest image offset) ∙ copied-fits buffer rest small room)
-    ∙ simp (drop-of-length-le rest none, append-nil, drop-drop, append-assoc)
+    let rest = take (length image - offset) (drop offset image) in
+    let room : length buffer ≤ length rest = simp (length-take, length-drop) (omega arith) in
+    ap (putMid offset (length image - offset) image) (copied-fits buffer rest small room) ∙ overlay-rest offset buffer image fits
 
 module _ (answer : Answer) (layout : Layout) (image : List ℕ) (first : ℕ) (buffer : List ℕ) where
   pub filled-accepted : (count start : ℕ) → answer ≡ Accepted → start ≡ extentStart layout first → length buffer ≡ count * sectorBytes

@@ -1,15 +1,12 @@
 -- What reads and writes move (RULES.md, Reads and writes): the buffer and the image after a call by its answer. What the contracts of
 -- `access` cite. Assumes nothing.
-use Prim.Native.Nat.{ℕ, _+_, _*_}
-use mathlib.Core.{Bool.cond, List.{List, _++_}}
-use lib.ListN.{length, take, drop}
+use Prim.Native.Nat.{ℕ, _*_}
+use mathlib.Core.{Bool.cond, List.List}
+use lib.ListN.{take, drop}
+use Rattle.fields.specs.Bytes.{overlay}
 use Rattle.answers.specs.{Answers.isAccepted, declared.Answer.Answer}
 use Rattle.layout.specs.{Rules.sectorBytes, declared.Layout.Layout}
 use Rattle.judgement.specs.Offsets.{extentStart}
-
--- bytes laid over an image from an offset on
-unfoldable pub overlay : ℕ → List ℕ → List ℕ → List ℕ
-overlay offset bytes image = take offset image ++ bytes ++ drop (offset + length bytes) image
 
 -- the buffer after a read: filled with the extent's bytes, or as it was
 unfoldable pub filledBy : Answer → Layout → List ℕ → ℕ → ℕ → List ℕ → List ℕ

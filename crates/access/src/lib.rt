@@ -4,9 +4,10 @@
 ghost use mathlib.Core.Path.{_≡_};
 ghost use Prim.Native.Nat.{_+_, _≤_};
 ghost use lib.ListN.{length, take, drop};
+ghost use Rattle.fields.specs.Bytes.{overlay};
 ghost use Rattle.copy.specs.Copy.{maxSize};
 ghost use Rattle.judgement.specs.Judging.{readAnswer, writeAnswer};
-ghost use Rattle.access.specs.Moving.{overlay, filledBy, writtenBy};
+ghost use Rattle.access.specs.Moving.{filledBy, writtenBy};
 use answers::Answer;
 use answers::Numbered;
 use layout::Layout;

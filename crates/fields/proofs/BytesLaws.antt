@@ -4,8 +4,9 @@ use Prim.Native.Nat.{ℕ, zero, suc, _+_, _-_, _≤_, _<_, min}
 use native.Mathlib.Nat.{zero-min, min-zero, suc-min-suc, add-sub-cancel-left}
 use native.Mathlib.Numerals.{add-one}
 use native.Mathlib.Omega.{arith}
-use mathlib.Core.{Path.{_≡_, refl, sym, ap, _∙_}, Bool.{true, false, _&&_, and-false}, List.{List, [], _∷_}}
-use lib.{Dec.eqb, ListN.{length, getD, take, drop, length-drop, drop-of-length-le}, Seq.drop-cons}
+use mathlib.Core.{Path.{_≡_, refl, sym, ap, ap₂, _∙_}, Bool.{Bool, true, false, _&&_, and-false, true≢false}, List.{List, [], _∷_}}
+use lib.{Dec.eqb, ListN.{length, getD, take, drop, replicate, length-drop, drop-of-length-le}, Seq.drop-cons}
+use borrow.Author.Tests.{eqb-true}
 use Rattle.fields.specs.Bytes.{sameBytes, allZero}
 
 -- ---- parts that reach past the end
@@ -36,7 +37,28 @@ pub all-zero-end : (xs : List ℕ) (i : ℕ) → length xs ≤ i → allZero (dr
 unfolding allZero
 all-zero-end xs i h = rw (drop-of-length-le xs h)
 
+pub all-zero-replicate : (xs : List ℕ) → allZero xs ≡ true → xs ≡ replicate (length xs) 0
+unfolding allZero
+all-zero-replicate [] h = refl
+all-zero-replicate (x ∷ xs) h = go (eqb x 0) refl h (all-zero-replicate xs)
+  where
+    go : (b : Bool) → eqb x 0 ≡ b → (b && allZero xs) ≡ true → (allZero xs ≡ true → xs ≡ replicate (length xs) 0)
+        → x ∷ xs ≡ replicate (length (x ∷ xs)) 0
+    go true e k rest = ap₂ (λ (y : ℕ) (ys : List ℕ). y ∷ ys) (eqb-true x 0 e) (rest k)
+    go false e k rest = absurd (true≢false (sym k))
+
 -- ---- two lists have the same bytes
+
+pub same-bytes-true : (xs ys : List ℕ) → sameBytes xs ys ≡ true → xs ≡ ys
+unfolding sameBytes
+same-bytes-true [] [] h = refl
+same-bytes-true [] (y ∷ ys) h = absurd (true≢false (sym h))
+same-bytes-true (x ∷ xs) [] h = absurd (true≢false (sym h))
+same-bytes-true (x ∷ xs) (y ∷ ys) h = go (eqb x y) refl h (same-bytes-true xs ys)
+  where
+    go : (b : Bool) → eqb x y ≡ b → (b && sameBytes xs ys) ≡ true → (sameBytes xs ys ≡ true → xs ≡ ys) → x ∷ xs ≡ y ∷ ys
+    go true e k rest = ap₂ (λ (z : ℕ) (zs : List ℕ). z ∷ zs) (eqb-true x y e) (rest k)
+    go false e k rest = absurd (true≢false (sym k))
 
 pub same-bytes-length : (xs ys : List ℕ) → (length xs ≡ length ys → ⊥) → sameBytes xs ys ≡ false
 unfolding sameBytes

@@ -1,1 +1,3 @@
 pub mod BytesLaws
+pub mod OverlayLaws
+pub mod PartLaws

@@ -9,38 +9,13 @@ use lib.Seq.{take-at, drop-append-add, drop-drop, take-add}
 use Rattle.layout.specs.declared.Layout.{Layout}
 use Rattle.sector_map.specs.SectorMap.{sectors, firstSector}
 use Rattle.judgement.specs.Offsets.{extentStart}
-use Rattle.access.specs.Moving.{overlay}
+use Rattle.fields.specs.Bytes.{overlay}
+use Rattle.fields.proofs.OverlayLaws.{overlay-nil, length-overlay, overlay-append}
 use Rattle.model.specs.Sectors.{sectorAt, setSector, lay, gather}
 use Rattle.guarantees.specs.{Table.covers, SectorMap.Sound}
 use Rattle.guarantees.proofs.CoversLaws.{consecutive, covers-consecutive}
 use Rattle.guarantees.proofs.Reflects.{is-true}
 use Rattle.guarantees.proofs.SoundLaws.{sound-reflects}
-
-overlay-nil : (at : ℕ) (image : List ℕ) → overlay at [] image ≡ image
-unfolding overlay
-overlay-nil at image = rw (append-nil, add-zero) (take-append-drop at image)
-
-length-overlay : (at : ℕ) (bytes image : List ℕ) → at + length bytes ≤ length image → length (overlay at bytes image) ≡ length image
-unfolding overlay
-length-overlay at bytes image fits = simp (length-append, length-take, length-drop) (omega arith)
-
-drop-past : (front rest : List ℕ) (n m : ℕ) → length front ≡ n → drop (n + m) (front ++ rest) ≡ drop m rest
-drop-past front rest n m size = rw (← size) (drop-append-add front rest m)
-
-overlay-append : (at : ℕ) (a b image : List ℕ) → at + length a ≤ length image → overlay (at + length a) b (overlay at a image) ≡ overlay at (a ++ b) image
-unfolding overlay
-overlay-append at a b image fits =
-    let n = at + length a in
-    let front = take at image ++ a in
-    let size : length front ≡ n = simp (length-append, length-take) (omega arith) in
-    let total : n + length b ≡ at + length (a ++ b) = omega (arith, length-append a b) in
-    rw (
-      take-at front (drop n image) n size,
-      drop-past front (drop n image) n (length b) size,
-      drop-drop (length b) n image,
-      total,
-      append-assoc (take at image) a b,
-    )
 
 set-sector-overlay : (host : ℕ) (bytes image : List ℕ) → length bytes ≡ 512 → setSector host bytes image ≡ overlay (host * 512) bytes image
 unfolding setSector overlay

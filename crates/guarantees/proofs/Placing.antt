@@ -9,7 +9,8 @@ use Rattle.layout.specs.declared.Layout.{Layout}
 use Rattle.judgement.specs.Offsets.{extentStart, offsetBy}
 use Rattle.judgement.proofs.JudgingLaws.{read-passed, write-passed, passed-moves, read-holds, write-holds}
 use Rattle.judgement.proofs.OffsetLaws.{offset-given, offset-refused, refused-offset}
-use Rattle.access.specs.Moving.{overlay, filledBy, writtenBy}
+use Rattle.fields.specs.Bytes.{overlay}
+use Rattle.access.specs.Moving.{filledBy, writtenBy}
 use Rattle.access.proofs.MovingLaws.{filled-accepted, written-accepted}
 use Rattle.view.specs.{Outcomes.{viewRead, viewWrite, after, readPlaced, writePlaced}, declared.View.View}
 use Rattle.boundary_numbers.specs.BoundaryNumbers.{viewFrom, numberedLeft}

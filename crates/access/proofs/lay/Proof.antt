@@ -7,7 +7,7 @@ use native.Mathlib.Omega.{arith}
 use borrow.Rule.Slice.PartMut.{putMid}
 use denote.Ref.{now}
 use lib.ListN.{length}
-use Rattle.access.specs.Moving.{overlay}
+use Rattle.fields.specs.Bytes.{overlay}
 use Rattle.access.proofs.MovingLaws.{copy-in}
 use Rattle.access.proofs.lay.Statement.{statement}
 use Rattle.access.proofs.lay.Tie as tie
