@@ -7,8 +7,8 @@ use lib.{Dec.leb, ListN.length}
 use Rattle.fields.specs.Bytes.{part, sameBytes, allZero}
 use Rattle.numbers.specs.Numbers.{bigEndian}
 use Rattle.crc32.specs.Crc32.{crc32}
-use Rattle.header.specs.Header.{veraMagic, trueMagic, magicOf, checksumsMatch, isHeader}
-use Rattle.guarantees.specs.{Header.{IsVera, IsTrue, IsHeader}, Numbers.AllZero}
+use Rattle.header.specs.Header.{veraMagic, trueMagic, magicNumber, magicOf, checksumsMatch, isHeader}
+use Rattle.guarantees.specs.{Header.{bytesAt, veraLetters, trueLetters, IsHeader}, Numbers.AllZero}
 use Rattle.guarantees.proofs.Reflects.{Reflects, holds, fails, reflects-map, reflects-and, reflects-eqb, reflects-nil, reflects-cons}
 
 nil-is-not-cons : {b : ℕ} {bytes : List ℕ} → [] ≡ b ∷ bytes → ⊥
@@ -27,26 +27,29 @@ unfolding allZero AllZero
 all-zero-reflects [] = reflects-nil (λ b. b ≡ 0)
 all-zero-reflects (b ∷ bytes) = reflects-cons (λ b. b ≡ 0) b bytes (reflects-eqb b 0) (all-zero-reflects bytes)
 
--- what a magic's number says of the bytes
-pub data MagicIs (h : List ℕ) : ℕ → Type 0 where
-  spellsVera : IsVera h → (IsTrue h → ⊥) → MagicIs h 0
-  spellsTrue : IsTrue h → (IsVera h → ⊥) → MagicIs h 1
-  spellsNeither : (IsVera h ⊎ IsTrue h → ⊥) → MagicIs h 2
+-- what a magic's number says of its bytes
+pub data MagicIs (bytes : List ℕ) : ℕ → Type 0 where
+  spellsVera : bytes ≡ veraLetters → (bytes ≡ trueLetters → ⊥) → MagicIs bytes 0
+  spellsTrue : bytes ≡ trueLetters → (bytes ≡ veraLetters → ⊥) → MagicIs bytes 1
+  spellsNeither : ((bytes ≡ veraLetters) ⊎ (bytes ≡ trueLetters) → ⊥) → MagicIs bytes 2
 
-vera-is-not-true : (h : List ℕ) → IsVera h → IsTrue h → ⊥
-unfolding IsVera IsTrue
-vera-is-not-true h v t = let z : _≡_ {A = ℕ} 86 84 = cc in omega arith
+vera-is-not-true : (bytes : List ℕ) → bytes ≡ veraLetters → bytes ≡ trueLetters → ⊥
+vera-is-not-true bytes v t = let z : _≡_ {A = ℕ} 86 84 = cc in omega arith
 
-pub magic-of-says : (h : List ℕ) → MagicIs h (magicOf h)
-unfolding magicOf IsVera IsTrue
-magic-of-says h = go (same-bytes-reflects (part 64 4 h) veraMagic) (same-bytes-reflects (part 64 4 h) trueMagic)
+pub magic-number-says : (bytes : List ℕ) → MagicIs bytes (magicNumber bytes)
+unfolding magicNumber
+magic-number-says bytes = go (same-bytes-reflects bytes veraMagic) (same-bytes-reflects bytes trueMagic)
   where
-    go : {a b : Bool} → Reflects (IsVera h) a → Reflects (IsTrue h) b → MagicIs h (cond a 0 (cond b 1 2))
-    go (holds v) r = spellsVera v (vera-is-not-true h v)
+    go : {a b : Bool} → Reflects (bytes ≡ veraLetters) a → Reflects (bytes ≡ trueLetters) b → MagicIs bytes (cond a 0 (cond b 1 2))
+    go (holds v) r = spellsVera v (vera-is-not-true bytes v)
     go (fails f) (holds t) = spellsTrue t f
     go (fails f) (fails g) = spellsNeither (⊎-elim f g)
 
-magic-reflects : {h : List ℕ} {magic : ℕ} → MagicIs h magic → Reflects (IsVera h ⊎ IsTrue h) (leb magic 1)
+pub magic-of-says : (h : List ℕ) → MagicIs (bytesAt 64 4 h) (magicOf h)
+unfolding magicOf
+magic-of-says h = magic-number-says (bytesAt 64 4 h)
+
+pub magic-reflects : {bytes : List ℕ} {magic : ℕ} → MagicIs bytes magic → Reflects ((bytes ≡ veraLetters) ⊎ (bytes ≡ trueLetters)) (leb magic 1)
 magic-reflects (spellsVera v g) = holds (inl v)
 magic-reflects (spellsTrue t f) = holds (inr t)
 magic-reflects (spellsNeither f) = fails f

@@ -1,27 +1,62 @@
 -- The rules are met exactly where they hold, one candidate is judged by them, and the key bytes are the accepted candidate's.
 -- Assumes nothing.
-use Prim.Native.Nat.{ℕ, _+_, _<_}
+use Prim.Native.Nat.{ℕ, _+_, _≤_, _<_}
 use native.Mathlib.Omega.{arith}
-use mathlib.Core.{Path.{_≡_, refl, sym, ap, _∙_}, Bool.Bool, List.{List, _++_}}
+use mathlib.Core.{Path.{_≡_, refl, sym, ap, _∙_}, Logic.{_⊎_, inl, inr, ⊎-elim, _↔_}, Bool.{Bool, true}, List.{List, _++_}}
 use lib.{ListN.{length, drop, length-append}, Seq.{drop-at, drop-drop}}
 use borrow.Author.Tests.{ne-eqb}
 use Rattle.layout.specs.declared.{Layout.Layout, Opened.{Opened, the-variants.{Accepted, Refused}}}
-use Rattle.header.specs.Header.{magicOf, fieldsOf, checksumsMatch, isHeader, reservedRule, judge}
+use Rattle.header.specs.Header.{magicOf, fieldsOf, checksumsMatch, isHeader, versionRule, reservedRule, judge}
 use Rattle.opening.specs.Opening.{keysOffset, keysSize}
-use Rattle.guarantees.specs.Header.{IsHeader, Line, number, Keeps, FirstBroken, Tells}
+use Rattle.guarantees.specs.Header.{veraLetters, trueLetters, IsHeader, Line, number, Keeps, FirstBroken, Tells}
 use Rattle.guarantees.specs.Judging.{KeepsRules, JudgesExactly, GivesKeys}
-use Rattle.guarantees.proofs.Reflects.{Reflects, holds, fails, is-false, true-exactly, reflects-eqb}
+use Rattle.guarantees.proofs.Reflects.{Reflects, holds, fails, is-false, true-exactly, reflects-map, reflects-and, reflects-eqb, reflects-leb}
 use Rattle.guarantees.proofs.RuleReflections.{host-size-reflects}
 use Rattle.guarantees.proofs.SoundLaws.{sound-reflects, data-area-rule-reflects}
-use Rattle.guarantees.proofs.HeaderLaws.{is-header-reflects}
+use Rattle.guarantees.proofs.HeaderLaws.{MagicIs, spellsVera, spellsTrue, spellsNeither, magic-number-says, is-header-reflects}
+use Rattle.guarantees.proofs.LineLaws.{four-or-five}
 use Rattle.guarantees.proofs.ToldLaws.{Told, layout-tells}
 use Rattle.guarantees.proofs.JudgementLaws.{Judgement, accepts, refuses, refuses4, judge-says}
+
+-- what each number of a magic says, both ways
+module _ {bytes : List ℕ} where
+  vera-exactly : {magic : ℕ} → MagicIs bytes magic → (magic ≡ 0) ↔ (bytes ≡ veraLetters)
+  vera-exactly (spellsVera v g) = (λ e. v, λ u. refl)
+  vera-exactly (spellsTrue t f) = (λ e. absurd (omega arith), λ u. absurd (f u))
+  vera-exactly (spellsNeither f) = (λ e. absurd (omega arith), λ u. absurd (f (inl u)))
+
+  true-exactly-spelt : {magic : ℕ} → MagicIs bytes magic → (magic ≡ 1) ↔ (bytes ≡ trueLetters)
+  true-exactly-spelt (spellsVera v g) = (λ e. absurd (omega arith), λ u. absurd (g u))
+  true-exactly-spelt (spellsTrue t f) = (λ e. t, λ u. refl)
+  true-exactly-spelt (spellsNeither f) = (λ e. absurd (omega arith), λ u. absurd (f (inr u)))
+
+  neither-told : {magic : ℕ} → MagicIs bytes magic → ((bytes ≡ veraLetters) ⊎ (bytes ≡ trueLetters) → ⊥) → magic ≡ 2
+  neither-told (spellsVera v g) f = absurd (f (inl v))
+  neither-told (spellsTrue t g) f = absurd (f (inr t))
+  neither-told (spellsNeither g) f = refl
+
+vera-versions : (told : ℕ) → (versionRule 0 told ≡ true) ↔ ((2 ≤ told) × (told ≤ 5))
+unfolding versionRule
+vera-versions told = true-exactly (reflects-map (λ p. (p .1, p .0)) (λ q. (q .1, q .0)) (reflects-and (reflects-leb told 5) (reflects-leb 2 told)))
+
+true-versions : (magic told : ℕ) → (magic ≡ 0 → ⊥) → (versionRule magic told ≡ true) ↔ ((told ≡ 4) ⊎ (told ≡ 5))
+unfolding versionRule
+true-versions magic told f =
+    rw (ne-eqb magic 0 f)
+    (true-exactly
+    (reflects-map (λ p. four-or-five told (p .1) (p .0)) (λ q. ⊎-elim (λ e. omega arith) (λ e. omega arith) q)
+    (reflects-and (reflects-leb told 5) (reflects-leb 4 told))))
 
 pub keeps-rules : KeepsRules
 keeps-rules =
     record {
       standardKind = refl;
       hiddenKind = refl;
+      veraMagics = λ bytes. vera-exactly (magic-number-says bytes);
+      trueMagics = λ bytes. true-exactly-spelt (magic-number-says bytes);
+      otherMagics = λ bytes f. neither-told (magic-number-says bytes) f;
+      veraVersions = vera-versions;
+      trueVersions = true-versions;
       hostSizes = λ hostSize. true-exactly (host-size-reflects hostSize);
       dataAreas = λ layout. true-exactly (data-area-rule-reflects layout);
       layouts = λ layout. true-exactly (sound-reflects layout);

@@ -8,7 +8,8 @@ use Rattle.layout.specs.{Rules.{standard, hidden, placeRule, sectorsRule, dataA
 use Rattle.fields.specs.Bytes.{part, allZero}
 use Rattle.header.specs.Header.{fieldsOf, acceptedLayout}
 use Rattle.header.specs.Header.{versionRule, reservedRule, flagsRule, sectorSizeRule, hiddenSizeRule, areaRule}
-use Rattle.guarantees.specs.Header.{KnownKind, IsVera, IsTrue, version, reserved, flags, sectorSize, hiddenSize, dataArea, DataArea, Keeps}
+use Rattle.guarantees.specs.Header.{bytesAt, veraLetters, trueLetters, IsVera, IsTrue, Supported, KnownKind}
+use Rattle.guarantees.specs.Header.{version, reserved, flags, sectorSize, hiddenSize, dataArea, DataArea, Keeps}
 use Rattle.guarantees.specs.Numbers.{AllZero}
 use Rattle.guarantees.proofs.Reflects.{Reflects, holds, fails, reflects-map, reflects-and, reflects-not, reflects-eqb, reflects-leb}
 use Rattle.guarantees.proofs.HeaderLaws.{MagicIs, spellsVera, spellsTrue, spellsNeither, all-zero-reflects}
@@ -25,27 +26,31 @@ kind-reflects kind = go (reflects-eqb kind standard) (reflects-eqb kind hidden)
     go (fails f) (holds e) r s = reflects-map (λ q. (inr e, (λ u. absurd (f u), λ u. q))) (λ k. k .1 .1 e) s
     go (fails f) (fails g) r s = fails (λ k. ⊎-elim f g (k .0))
 
-four-or-five : (n : ℕ) → 4 ≤ n → n ≤ 5 → (n ≡ 4) ⊎ (n ≡ 5)
+pub four-or-five : (n : ℕ) → 4 ≤ n → n ≤ 5 → (n ≡ 4) ⊎ (n ≡ 5)
 four-or-five n l m = go (reflects-eqb n 4)
   where
     go : {b : Bool} → Reflects (n ≡ 4) b → (n ≡ 4) ⊎ (n ≡ 5)
     go (holds e) = inl e
     go (fails f) = inr (omega arith)
 
-module _ (kind hostSize : ℕ) (h : List ℕ) where
-  pub version-reflects : {magic : ℕ} → IsVera h ⊎ IsTrue h → MagicIs h magic
-      → Reflects (Keeps version kind hostSize h) (versionRule magic (fieldsOf h .version))
-  unfolding fieldsOf Keeps versionRule
-  version-reflects known (spellsVera v g) =
-      reflects-map (λ p. (λ u. (p .1, p .0), λ t. absurd (g t))) (λ k. (k .0 v .1, k .0 v .0))
-      (reflects-and (reflects-leb (fieldsOf h .version) 5) (reflects-leb 2 (fieldsOf h .version)))
-  version-reflects known (spellsTrue t f) =
-      reflects-map (λ p. (λ v. absurd (f v), λ u. four-or-five (fieldsOf h .version) (p .1) (p .0)))
-      (λ k. ⊎-elim (λ e. omega arith) (λ e. omega arith) (k .1 t))
-      (reflects-and (reflects-leb (fieldsOf h .version) 5) (reflects-leb 4 (fieldsOf h .version)))
-  version-reflects known (spellsNeither f) = absurd (f known)
+pub supported-reflects : {magic : ℕ} (bytes : List ℕ) (told : ℕ) → (bytes ≡ veraLetters) ⊎ (bytes ≡ trueLetters) → MagicIs bytes magic
+    → Reflects (Supported bytes told) (versionRule magic told)
+unfolding versionRule
+supported-reflects bytes told known (spellsVera v g) =
+    reflects-map (λ p. (λ u. (p .1, p .0), λ t. absurd (g t))) (λ k. (k .0 v .1, k .0 v .0))
+    (reflects-and (reflects-leb told 5) (reflects-leb 2 told))
+supported-reflects bytes told known (spellsTrue t f) =
+    reflects-map (λ p. (λ v. absurd (f v), λ u. four-or-five told (p .1) (p .0))) (λ k. ⊎-elim (λ e. omega arith) (λ e. omega arith) (k .1 t))
+    (reflects-and (reflects-leb told 5) (reflects-leb 4 told))
+supported-reflects bytes told known (spellsNeither f) = absurd (f known)
 
-  zeros-reflects : {magic : ℕ} → IsVera h ⊎ IsTrue h → MagicIs h magic
+module _ (kind hostSize : ℕ) (h : List ℕ) where
+  pub version-reflects : {magic : ℕ} → IsVera h ⊎ IsTrue h → MagicIs (bytesAt 64 4 h) magic
+      → Reflects (Keeps version kind hostSize h) (versionRule magic (fieldsOf h .version))
+  unfolding fieldsOf Keeps
+  version-reflects known m = supported-reflects (bytesAt 64 4 h) (fieldsOf h .version) known m
+
+  zeros-reflects : {magic : ℕ} → IsVera h ⊎ IsTrue h → MagicIs (bytesAt 64 4 h) magic
       → Reflects (IsVera h → AllZero (part 76 16 h) × AllZero (part 132 120 h))
       (cond (eqb magic 0) (allZero (part 76 16 h) && allZero (part 132 120 h)) true)
   zeros-reflects known (spellsVera v g) =
@@ -53,7 +58,7 @@ module _ (kind hostSize : ℕ) (h : List ℕ) where
   zeros-reflects known (spellsTrue t f) = holds (λ v. absurd (f v))
   zeros-reflects known (spellsNeither f) = absurd (f known)
 
-  pub reserved-reflects : {magic : ℕ} → IsVera h ⊎ IsTrue h → MagicIs h magic
+  pub reserved-reflects : {magic : ℕ} → IsVera h ⊎ IsTrue h → MagicIs (bytesAt 64 4 h) magic
       → Reflects (Keeps reserved kind hostSize h) (reservedRule magic (fieldsOf h .flags) h)
   unfolding fieldsOf Keeps reservedRule
   reserved-reflects known m = reflects-and (reflects-eqb (fieldsOf h .flags / 4) 0) (zeros-reflects known m)

@@ -5,19 +5,19 @@ use native.Mathlib.Omega.{arith}
 use mathlib.Core.{Path.{_≡_, refl, sym, _∙_}, Logic.{inl, inr}, List.List}
 use Rattle.layout.specs.declared.Layout.{Layout}
 use Rattle.header.specs.Header.{magicOf, fieldsOf, acceptedLayout}
-use Rattle.guarantees.specs.Header.{IsVera, IsTrue, Tells, DataArea}
+use Rattle.guarantees.specs.Header.{veraLetters, trueLetters, Tells, DataArea}
 use Rattle.guarantees.proofs.HeaderLaws.{MagicIs, spellsVera, spellsTrue, spellsNeither, magic-of-says}
 
 -- what the candidate tells where it is accepted
 abbrev pub Told : ℕ → ℕ → ℕ → List ℕ → Layout
 Told kind hostSize index h = acceptedLayout kind hostSize index (magicOf h) (fieldsOf h)
 
-vera-told : {h : List ℕ} {magic : ℕ} → MagicIs h magic → IsVera h → magic ≡ 0
+vera-told : {bytes : List ℕ} {magic : ℕ} → MagicIs bytes magic → bytes ≡ veraLetters → magic ≡ 0
 vera-told (spellsVera v g) u = refl
 vera-told (spellsTrue t f) u = absurd (f u)
 vera-told (spellsNeither f) u = absurd (f (inl u))
 
-true-told : {h : List ℕ} {magic : ℕ} → MagicIs h magic → IsTrue h → magic ≡ 1
+true-told : {bytes : List ℕ} {magic : ℕ} → MagicIs bytes magic → bytes ≡ trueLetters → magic ≡ 1
 true-told (spellsVera v g) u = absurd (g u)
 true-told (spellsTrue t f) u = refl
 true-told (spellsNeither f) u = absurd (f (inr u))

@@ -14,12 +14,23 @@ use Rattle.guarantees.specs.Numbers.{AllZero}
 abbrev pub bytesAt : ℕ → ℕ → List ℕ → List ℕ
 bytesAt offset size bytes = take size (drop offset bytes)
 
--- the magic, bytes 64 to 67, in ASCII: VERA or TRUE
-unfoldable pub IsVera : List ℕ → Type 0
-IsVera h = bytesAt 64 4 h ≡ 0x56 ∷ 0x45 ∷ 0x52 ∷ 0x41 ∷ []
+-- the two magics in ASCII, VERA and TRUE
+abbrev pub veraLetters : List ℕ
+veraLetters = 0x56 ∷ 0x45 ∷ 0x52 ∷ 0x41 ∷ []
 
-unfoldable pub IsTrue : List ℕ → Type 0
-IsTrue h = bytesAt 64 4 h ≡ 0x54 ∷ 0x52 ∷ 0x55 ∷ 0x45 ∷ []
+abbrev pub trueLetters : List ℕ
+trueLetters = 0x54 ∷ 0x52 ∷ 0x55 ∷ 0x45 ∷ []
+
+-- .. at bytes 64 to 67
+abbrev pub IsVera : List ℕ → Type 0
+IsVera h = bytesAt 64 4 h ≡ veraLetters
+
+abbrev pub IsTrue : List ℕ → Type 0
+IsTrue h = bytesAt 64 4 h ≡ trueLetters
+
+-- the versions that headers of a magic may have
+abbrev pub Supported : List ℕ → ℕ → Type 0
+Supported magic version = (magic ≡ veraLetters → (2 ≤ version) × (version ≤ 5)) × (magic ≡ trueLetters → (version ≡ 4) ⊎ (version ≡ 5))
 
 -- the numbers, each at its offset with its size; the min program version alone is little-endian
 abbrev pub fieldsAt : List ℕ → Fields
@@ -83,9 +94,7 @@ pub record DataArea (layout : Layout) (encryptedSize : ℕ) : Type 0 where
 
 -- what it is for a header to keep a line, for the kind of its location and a host size
 unfoldable pub Keeps : Line → ℕ → ℕ → List ℕ → Type 0
-Keeps version kind hostSize h =
-    (IsVera h → (2 ≤ fieldsAt h .version) × (fieldsAt h .version ≤ 5))
-    × (IsTrue h → (fieldsAt h .version ≡ 4) ⊎ (fieldsAt h .version ≡ 5))
+Keeps version kind hostSize h = Supported (bytesAt 64 4 h) (fieldsAt h .version)
 Keeps reserved kind hostSize h = (fieldsAt h .flags / 4 ≡ 0) × (IsVera h → AllZero (bytesAt 76 16 h) × AllZero (bytesAt 132 120 h))
 Keeps flags kind hostSize h = fieldsAt h .flags % 4 ≡ 0
 Keeps sectorSize kind hostSize h = fieldsAt h .«sector_size» ≡ 512

@@ -1,20 +1,26 @@
 -- What stands below opening: the rules for a host's size, a data area and a layout, the judgement of one candidate, and the key bytes.
--- `hostSizeRule`, `dataAreaRule`, `sound`, `judge` and `KeyBytes` are the definitions that the contracts of `layout`, `header` and
+-- `hostSizeRule`, `dataAreaRule`, `sound`, `magicNumber`, `versionRule`, `judge` and `KeyBytes` are the definitions that the contracts of `layout`, `header` and
 -- `opening` cite. Assumes nothing.
-use Prim.Native.Nat.{ℕ, _+_, _*_}
-use mathlib.Core.{Path._≡_, Logic._↔_, Bool.true, List.{List, [], _++_}}
+use Prim.Native.Nat.{ℕ, _+_, _*_, _≤_}
+use mathlib.Core.{Path._≡_, Logic.{_⊎_, _↔_}, Bool.true, List.{List, [], _++_}}
 use lib.ListN.{length}
 use Rattle.layout.specs.Rules.{standard, hidden, hostSizeRule, dataAreaRule, sound}
 use Rattle.layout.specs.declared.{Layout.Layout, Opened.the-variants.{Accepted, Refused}}
-use Rattle.header.specs.Header.{judge}
+use Rattle.header.specs.Header.{magicNumber, versionRule, judge}
 use Rattle.opening.specs.Opening.{KeyBytes}
-use Rattle.guarantees.specs.Header.{bytesAt, KnownKind, DataArea, IsHeader, Line, number, Keeps, FirstBroken, Tells}
+use Rattle.guarantees.specs.Header.{bytesAt, veraLetters, trueLetters, KnownKind, DataArea, IsHeader, Line, number, Keeps, FirstBroken, Tells}
 use Rattle.guarantees.specs.{Opening.HostSize, SectorMap.Sound}
 
 -- each rule is met exactly where it holds, and the kinds have these numbers
 pub record KeepsRules : Type 0 where
   pub standardKind : standard ≡ 0
   pub hiddenKind : hidden ≡ 1
+  -- a magic's number, and the versions that its headers may have; any other number than VERA's is judged as TRUE's
+  pub veraMagics : (bytes : List ℕ) → (magicNumber bytes ≡ 0) ↔ (bytes ≡ veraLetters)
+  pub trueMagics : (bytes : List ℕ) → (magicNumber bytes ≡ 1) ↔ (bytes ≡ trueLetters)
+  pub otherMagics : (bytes : List ℕ) → ((bytes ≡ veraLetters) ⊎ (bytes ≡ trueLetters) → ⊥) → magicNumber bytes ≡ 2
+  pub veraVersions : (version : ℕ) → (versionRule 0 version ≡ true) ↔ ((2 ≤ version) × (version ≤ 5))
+  pub trueVersions : (magic version : ℕ) → (magic ≡ 0 → ⊥) → (versionRule magic version ≡ true) ↔ ((version ≡ 4) ⊎ (version ≡ 5))
   pub hostSizes : (hostSize : ℕ) → (hostSizeRule hostSize ≡ true) ↔ HostSize hostSize
   pub dataAreas : (layout : Layout) → (dataAreaRule layout ≡ true) ↔ (KnownKind (layout .kind) × DataArea layout (layout .«data_size»))
   pub layouts : (layout : Layout) → (sound layout ≡ true) ↔ Sound layout

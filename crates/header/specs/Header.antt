@@ -19,6 +19,9 @@ headerBytes = 512
 abbrev at : ℕ → ℕ → Field
 at offset size = record { offset = offset; size = size }
 
+abbrev pub saltField : Field
+saltField = at 0 64
+
 abbrev pub magicField : Field
 magicField = at 64 4
 
@@ -79,9 +82,13 @@ trueMagic = 84 ∷ 82 ∷ 85 ∷ 69 ∷ []
 abbrev pub truecrypt : ℕ
 truecrypt = 1
 
--- which magic (the lab's "mark") the bytes spell: VERA, TRUE, or neither, which is 2
+-- which magic (the lab's "mark") four bytes spell: VERA, TRUE, or neither, which is 2
+unfoldable pub magicNumber : List ℕ → ℕ
+magicNumber bytes = cond (sameBytes bytes veraMagic) vera (cond (sameBytes bytes trueMagic) truecrypt 2)
+
+-- the magic of a candidate
 unfoldable pub magicOf : List ℕ → ℕ
-magicOf h = cond (sameBytes (fieldPart magicField h) veraMagic) vera (cond (sameBytes (fieldPart magicField h) trueMagic) truecrypt 2)
+magicOf h = magicNumber (fieldPart magicField h)
 
 -- the numbers of the header; the min program version (the lab's "least program version") alone is little-endian
 unfoldable pub fieldsOf : List ℕ → Fields

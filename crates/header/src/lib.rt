@@ -5,21 +5,28 @@ ghost use mathlib.Core.Path.{_≡_};
 ghost use Prim.Native.Nat.{_≤_};
 ghost use Rattle.fields.specs.Bytes.{fieldPart};
 ghost use Rattle.numbers.specs.Numbers.{bigEndian};
-ghost use Rattle.header.specs.Header.{magicOf, fieldsOf, checksumsMatch, isHeader};
+ghost use Rattle.header.specs.Header.{magicNumber, magicOf, fieldsOf, checksumsMatch, isHeader};
 ghost use Rattle.header.specs.Header.{versionRule, reservedRule, hiddenSizeRule, areaRule};
 ghost use Rattle.header.specs.Header.{acceptedLayout, judge as judgement};
 use fields::Field;
 use layout::Layout;
 use layout::Opened;
 
-mod places;
+pub mod places;
 
 pub const SIZE: usize = 512;
+
+pub const SALT_SIZE: usize = places::SALT.size;
 
 // Where the keys stand.
 pub const KEYS: usize = places::KEYS.offset;
 
 pub const KEYS_SIZE: usize = places::KEYS.size;
+
+// The magics, as a header spells them.
+pub const VERA_MAGIC: [u8; 4] = *b"VERA";
+
+pub const TRUE_MAGIC: [u8; 4] = *b"TRUE";
 
 // The magics, as a layout has them.
 pub const VERA: u64 = 0;
@@ -61,11 +68,17 @@ pub fn judge(candidate: &[u8], kind: u64, host_size: u64, index: u64) -> Opened
 fn magic_of(candidate: &[u8]) -> u64
     ensures { λ r. ⌜ r ≡ magicOf (now (candidate .entry)) ⌝ }
 {
-    let magic = fields::field_bytes(candidate, places::MAGIC);
-    if fields::same_bytes(magic, b"VERA") {
+    magic_number(fields::field_bytes(candidate, places::MAGIC))
+}
+
+// Which magic the bytes spell: VERA's number or TRUE's, and NEITHER for all other bytes.
+pub fn magic_number(bytes: &[u8]) -> u64
+    ensures { λ r. ⌜ r ≡ magicNumber (now (bytes .entry)) ⌝ }
+{
+    if fields::same_bytes(bytes, &VERA_MAGIC) {
         return VERA;
     }
-    if fields::same_bytes(magic, b"TRUE") {
+    if fields::same_bytes(bytes, &TRUE_MAGIC) {
         return TRUE;
     }
     NEITHER
@@ -140,7 +153,8 @@ fn first_broken(candidate: &[u8], magic: u64, kind: u64, host_size: u64, index: 
     Opened::Accepted(layout)
 }
 
-fn keeps_version(magic: u64, version: u64) -> bool
+// Whether a magic's headers may have this version.
+pub fn keeps_version(magic: u64, version: u64) -> bool
     ensures { λ r. ⌜ r ≡ versionRule magic version ⌝ }
 {
     if 5 < version {

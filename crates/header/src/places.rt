@@ -1,6 +1,11 @@
 // Where each field of a header stands (RULES.md, Header bytes).
 use fields::Field;
 
+pub const SALT: Field = Field {
+    offset: 0,
+    size: 64,
+};
+
 pub const MAGIC: Field = Field {
     offset: 64,
     size: 4,

@@ -5,7 +5,7 @@ use Rattle.numbers.specs.Numbers.{bigEndian, bigEndianFrom, bigEndianBytes, lit
 use Rattle.fields.specs.Bytes.{sameBytes, allZero}
 use Rattle.crc32.specs.Crc32.{crc32, crcFrom, bitSteps, bitStep}
 use Rattle.layout.specs.Rules.{hostSizeRule, placeRule, sectorsRule, dataAreaRule, sound}
-use Rattle.header.specs.Header.{magicOf, fieldsOf, checksumsMatch, isHeader, acceptedLayout, judge}
+use Rattle.header.specs.Header.{magicNumber, magicOf, fieldsOf, checksumsMatch, isHeader, acceptedLayout, judge}
 use Rattle.header.specs.Header.{versionRule, reservedRule, flagsRule, sectorSizeRule, hiddenSizeRule, areaRule}
 use Rattle.locations.specs.Locations.{locations, locationOf, codeRule}
 use Rattle.opening.specs.Opening.{lengthsRule, codesRule, candidateAt, judgements, further, searched, opened}
@@ -25,7 +25,7 @@ use Rattle.worked_cases.specs.WorkedCases.{onView, writing, reading, lea
 table : map (λ c. c .0) cases ≡ map (λ c. c .1) cases
 unfolding cases opens toldOf headerWith fieldBytes bigEndianBytes volume volumeM volumeN mappedTold tweakTold
     opened lengthsRule codesRule codeRule hostSizeRule searched further judgements candidateAt locationOf locations
-    judge isHeader magicOf fieldsOf checksumsMatch sameBytes allZero acceptedLayout
+    judge isHeader magicNumber magicOf fieldsOf checksumsMatch sameBytes allZero acceptedLayout
     versionRule reservedRule flagsRule sectorSizeRule hiddenSizeRule areaRule dataAreaRule sectorsRule placeRule
     crc32 crcFrom bitStep bitSteps bigEndian bigEndianFrom littleEndian
     hostSector userSector tweakNumber tweakOf blockOf sectors firstSector sound littleEndianBytes

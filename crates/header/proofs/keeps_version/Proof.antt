@@ -1,5 +1,6 @@
 -- `header::keeps_version` meets its contract.
 -- Assumes nothing.
+use mathlib.Core.Path.{refl}
 use borrow.Author.Tests.{eq-eqb, ne-eqb, le-leb, lt-leb}
 use Rattle.header.specs.Header.{versionRule}
 use Rattle.header.proofs.keeps_version.Statement.{statement}
@@ -7,15 +8,15 @@ use Rattle.header.proofs.keeps_version.Tie as tie
 
 returns : tie.Need-returns
 unfolding versionRule
-returns c = simp (lt-leb _ _ (c .if1 .taken))
+returns c = rw (lt-leb _ _ (c .if1 .taken)) refl
 
 returns-2 : tie.Need-returns-2
 unfolding versionRule
-returns-2 c = simp (le-leb _ _ (c .before .if1 .left), eq-eqb _ _ (c .if2 .taken))
+returns-2 c = rw (le-leb _ _ (c .before .if1 .left), eq-eqb _ _ (c .if2 .taken)) refl
 
 returns-3 : tie.Need-returns-3
 unfolding versionRule
-returns-3 c = simp (le-leb _ _ (c .before .if1 .left), ne-eqb _ _ (c .if2 .left))
+returns-3 c = rw (le-leb _ _ (c .before .if1 .left), ne-eqb _ _ (c .if2 .left)) refl
 
 pub keeps-version-spec : {M : Type 1} → statement M
 keeps-version-spec = tie.close (tie.spec returns returns-2 returns-3)

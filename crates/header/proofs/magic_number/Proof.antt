@@ -1,0 +1,47 @@
+-- `header::magic_number` meets its contract: the two words are the magics of the definition.
+-- Assumes nothing.
+use mathlib.Core.Path.{refl, sym, _∙_}
+use Rattle.header.specs.Header.{magicNumber}
+use borrow.Author.Needs.{needs}
+use Rattle.header.proofs.magic_number.Statement.{statement}
+use Rattle.header.proofs.magic_number.Tie as tie
+
+slice-aggregate-same-bytes : tie.Need-slice-aggregate-same-bytes
+slice-aggregate-same-bytes c = search needs
+
+same-bytes-requires : tie.Need-same-bytes-requires
+same-bytes-requires c κs = search needs
+
+returns : tie.Need-returns
+unfolding magicNumber
+returns c = rw (sym (c .before .same-bytes .ensures) ∙ c .if1 .taken) refl
+
+slice-aggregate-same-bytes-2 : tie.Need-slice-aggregate-same-bytes-2
+slice-aggregate-same-bytes-2 c = search needs
+
+same-bytes-requires-2 : tie.Need-same-bytes-requires-2
+same-bytes-requires-2 c κs = search needs
+
+returns-2 : tie.Need-returns-2
+unfolding magicNumber
+returns-2 c =
+    let first = c .before .before .before in
+    rw (sym (first .before .same-bytes .ensures) ∙ first .if1 .left, sym (c .before .same-bytes2 .ensures) ∙ c .if2 .taken) refl
+
+returns-3 : tie.Need-returns-3
+unfolding magicNumber
+returns-3 c =
+    let first = c .before .before .before in
+    rw (sym (first .before .same-bytes .ensures) ∙ first .if1 .left, sym (c .before .same-bytes2 .ensures) ∙ c .if2 .left) refl
+
+pub magic-number-spec : {M : Type 1} → statement M
+magic-number-spec =
+    tie.close
+    (tie.spec
+    slice-aggregate-same-bytes
+    same-bytes-requires
+    returns
+    slice-aggregate-same-bytes-2
+    same-bytes-requires-2
+    returns-2
+    returns-3)
