@@ -1,2 +1,3 @@
 pub mod EntriesLaws
 pub mod XorLaws
+pub mod BytesLaws

@@ -1,3 +1,4 @@
 pub mod BitStepLaws
 pub mod CrcTableLaws
 pub mod WordLaws
+pub mod BoundLaws

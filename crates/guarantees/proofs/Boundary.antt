@@ -8,6 +8,7 @@ use Rattle.answers.specs.Answers.{numberedRefusal, answerRefusal}
 use Rattle.layout.specs.Opened.{openedRefusal}
 use Rattle.opening.specs.Opening.{keysOffset, keysSize}
 use Rattle.opening.proofs.OpenedLaws.{opened-inside}
+use Rattle.header_writing.specs.HeaderWriting.{writtenRefusal}
 use Rattle.sector_map.specs.SectorMap.{tweakOf, tweakNumber}
 use Rattle.making.specs.Views.{viewedRefusal}
 use Rattle.protection.specs.declared.Protection.{Protection, the-variants.{Unprotected, Protected}}
@@ -17,12 +18,12 @@ use Rattle.boundary_opening.specs.BoundaryOpening.{keysLeft}
 use Rattle.boundary_access.specs.BoundaryAccess.{viewLeft}
 use Rattle.guarantees.specs.Boundary.{TellsNumbers, ReturnsZero, OrdersNumbers, storedProtection, StoresAnswers}
 use Rattle.guarantees.proofs.BoundaryNumbers.{view-of-numbers, set-last}
-use Rattle.guarantees.proofs.BoundaryZero.{located-zero, opened-zero, host-sector-zero, user-sector-zero}
+use Rattle.guarantees.proofs.BoundaryZero.{located-zero, opened-zero, header-zero, host-sector-zero, user-sector-zero}
 use Rattle.guarantees.proofs.BoundaryZero.{plain-view-zero, protected-view-zero, read-zero, write-zero}
 use Rattle.guarantees.proofs.Reflects.{is-false, reflects-eqb}
 
 pub tells-numbers : TellsNumbers
-unfolding openedRefusal numberedRefusal viewedRefusal answerRefusal
+unfolding openedRefusal numberedRefusal viewedRefusal writtenRefusal answerRefusal
 tells-numbers =
     record {
       openedAccepted = λ layout. refl;
@@ -31,6 +32,8 @@ tells-numbers =
       numberedRefused = λ number. refl;
       madeAccepted = λ view. refl;
       madeRefused = λ number. refl;
+      headerDone = refl;
+      headerRefused = λ number. refl;
       accessAccepted = refl;
       accessRefused = λ number. refl;
     }
@@ -41,6 +44,7 @@ returns-zero =
     record {
       locates = located-zero;
       opens = opened-zero;
+      headers = header-zero;
       hostSectors = host-sector-zero;
       userSectors = user-sector-zero;
       tweaks = host-sector-zero;

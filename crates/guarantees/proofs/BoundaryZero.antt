@@ -2,7 +2,7 @@
 -- Assumes nothing.
 use Prim.Native.Nat.{ℕ, suc, _+_, _<_}
 use native.Mathlib.Omega.{arith}
-use mathlib.Core.{Path.{_≡_, refl, ap, _∙_}, Logic._↔_, Bool.{Bool, true, false, _&&_, cond}, List.List}
+use mathlib.Core.{Path.{_≡_, refl, sym, ap, subst, _∙_}, Logic.{_↔_, ⊎-elim}, Bool.{Bool, true, false, _&&_, cond}, List.List}
 use lib.{Dec.{leb, ltb}, ListN.length}
 use Rattle.answers.specs.{Answers.{line, answerRefusal, numberedRefusal}, declared.{Answer.Answer, Numbered.the-variants.Number}}
 use Rattle.answers.proofs.AnswerLaws.{refused-accepted}
@@ -16,11 +16,16 @@ use Rattle.protection.specs.Protection.{nests, pairAnswer}
 use Rattle.view.specs.{Outcomes.{viewRead, viewWrite}, declared.View.View}
 use Rattle.making.specs.{Views.{madeBy, plainView, protectedView, viewedRefusal}, declared.Viewed.the-variants.Made}
 use Rattle.answers.specs.declared.Answer.the-variants as access
-use Rattle.guarantees.specs.{Boundary.ZeroAccepts, Header.number, Opening.{Lengths, Codes, HostSize}}
+use Rattle.header_writing.specs.{HeaderWriting.writtenRefusal, declared.Written.Written}
+use Rattle.header_writing.specs.declared.Written.the-variants as writing
+use Rattle.header_writing.proofs.AnswerLaws.{refused-done}
+use Rattle.guarantees.specs.{Boundary.ZeroAccepts, Header.number, Opening.{Lengths, Codes, HostSize}, Writing.{Request, answerTo, Check, refusalOf}}
+use Rattle.guarantees.specs.Writing.{rightLengths, knownMagic, knownCode, allowedHost, supportedVersion, allowedArea}
 use Rattle.guarantees.proofs.Reflects.{Reflects, holds, fails}
 use Rattle.guarantees.proofs.RuleReflections.{lengths-reflects, codes-reflects, host-size-reflects}
 use Rattle.guarantees.proofs.JudgementLaws.{number-bounds}
 use Rattle.guarantees.proofs.FirstAcceptedLaws.{Found, anAccepted, aHeader, noHeader, search-says}
+use Rattle.guarantees.proofs.WritesExactly.{writes-exactly}
 
 -- answers of any kind whose acceptances have the number 0
 module _ {A R : Type 0} {number : R → ℕ} {accepted : A → R} where
@@ -89,6 +94,29 @@ module _ (candidates codes : List ℕ) (hostSize : ℕ) where
   pub opened-zero : ZeroAccepts openedRefusal Accepted (opened candidates codes hostSize)
   unfolding opened
   opened-zero = opened-zero-by (lengths-reflects candidates codes) (codes-reflects codes) (host-size-reflects hostSize)
+
+-- an answer of the writer
+abbrev ZeroWrites : Written → Type 0
+ZeroWrites answer = (writtenRefusal answer ≡ 0) ↔ (answer ≡ writing.Done)
+
+done-writes : ZeroWrites writing.Done
+unfolding writtenRefusal
+done-writes = (λ e. refl, λ e. refl)
+
+refused-writes : (check : Check) → ZeroWrites (writing.Refused (refusalOf check))
+unfolding writtenRefusal refusalOf
+refused-writes rightLengths = (λ e. absurd (omega arith), refused-done 1)
+refused-writes knownMagic = (λ e. absurd (omega arith), refused-done 19)
+refused-writes knownCode = (λ e. absurd (omega arith), refused-done 2)
+refused-writes allowedHost = (λ e. absurd (omega arith), refused-done 3)
+refused-writes supportedVersion = (λ e. absurd (omega arith), refused-done 5)
+refused-writes allowedArea = (λ e. absurd (omega arith), refused-done 10)
+
+pub header-zero : (request : Request) (before : List ℕ) → ZeroWrites (answerTo request before)
+header-zero request before =
+    let says = writes-exactly request before in
+    ⊎-elim (λ all. subst ZeroWrites (sym (says .writes all)) done-writes)
+    (λ first. subst ZeroWrites (sym (says .refuses (first .0) (first .1))) (refused-writes (first .0))) (says .oneHolds)
 
 -- an answer to a read or a write
 abbrev ZeroTells : Answer → Type 0

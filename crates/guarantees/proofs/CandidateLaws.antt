@@ -10,7 +10,7 @@ use Rattle.opening.specs.Opening.{candidateAt}
 use Rattle.guarantees.specs.{Header.KnownKind, Opening.{Lengths, candidate, kindOf}}
 use Rattle.guarantees.proofs.JudgementLaws.{Judgement, judge-says}
 
-location-of-kind : (code : ℕ) → code ≤ 3 → locationOf code .kind ≡ kindOf code
+pub location-of-kind : (code : ℕ) → code ≤ 3 → locationOf code .kind ≡ kindOf code
 unfolding locationOf locations kindOf
 location-of-kind zero h = refl
 location-of-kind (suc zero) h = refl

@@ -16,6 +16,7 @@ pub mod HeaderLaws
 pub mod Interleaving
 pub mod JudgementLaws
 pub mod Judging
+pub mod LaysHeaders
 pub mod LineLaws
 pub mod MapLaws
 pub mod MapProgram
@@ -25,6 +26,7 @@ pub mod Opening
 pub mod Parts
 pub mod Placing
 pub mod RangeLaws
+pub mod ReadsBack
 pub mod Reflects
 pub mod RuleReflections
 pub mod SectorMap
@@ -35,3 +37,6 @@ pub mod ToldLaws
 pub mod ViewLaws
 pub mod ViewRulesLaws
 pub mod Views
+pub mod WritesAgain
+pub mod WritesExactly
+pub mod WritingLaws

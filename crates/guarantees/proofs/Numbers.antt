@@ -7,6 +7,7 @@ use lib.{Bits.{bitXor, xor-zero-l}, Dec.eqb}
 use Rattle.numbers.specs.Numbers.{bigEndian, bigEndianFrom, bigEndianBytes, littleEndian, littleEndianBytes}
 use Rattle.numbers.proofs.NumbersLaws.{big-endian-snoc}
 use Rattle.numbers.proofs.WrittenLaws.{little-endian-bytes-length, little-endian-bytes-lt, little-endian-bytes-spell}
+use Rattle.numbers.proofs.WrittenLaws.{big-endian-bytes-spell, big-endian-bytes-again}
 use Rattle.crc32.specs.Crc32.{crc32, crcFrom, bitSteps, bitStep}
 use Rattle.bits.proofs.XorLaws.{xor-cancel-left}
 use Rattle.crc32.proofs.BitStepLaws.{crc-from-append}
@@ -42,6 +43,8 @@ spells-numbers =
       writtenBytes = little-endian-bytes-lt;
       written = little-endian-bytes-spell;
       bigWritten = big-endian-bytes-reversed;
+      bigRead = big-endian-bytes-spell;
+      bigAgain = big-endian-bytes-again;
       readModulo = λ number size r read. read .modulo;
       readWhole = λ number size r read small. read .whole small;
     }

@@ -35,7 +35,7 @@ module _ (candidates codes : List ℕ) (hostSize : ℕ) where
   allowed-by answer (holds l) (fails f) t e = absurd (refused-is-not-accepted e)
   allowed-by answer (fails f) r t e = absurd (refused-is-not-accepted e)
 
-  opened-allowed : (layout : Layout) → opened candidates codes hostSize ≡ Accepted layout → Allowed candidates codes hostSize
+  pub opened-allowed : (layout : Layout) → opened candidates codes hostSize ≡ Accepted layout → Allowed candidates codes hostSize
   unfolding opened
   opened-allowed layout =
       allowed-by (searched candidates hostSize codes) (lengths-reflects candidates codes) (codes-reflects codes)

@@ -9,6 +9,8 @@ use Rattle.layout.specs.declared.Layout.{Layout}
 use Rattle.layout.specs.declared.Opened.the-variants as opening
 use Rattle.locations.specs.Locations.{located}
 use Rattle.opening.specs.Opening.{opened}
+use Rattle.header_writing.specs.HeaderWriting.{writtenRefusal}
+use Rattle.header_writing.specs.declared.Written.the-variants as writing
 use Rattle.sector_map.specs.SectorMap.{hostSector, userSector, tweakOf}
 use Rattle.answers.specs.declared.Numbered.the-variants as numbered
 use Rattle.view.specs.Outcomes.{viewRead, viewWrite, ReadPost, WritePost}
@@ -20,6 +22,7 @@ use Rattle.making.specs.declared.Viewed.the-variants as making
 use Rattle.boundary_numbers.specs.BoundaryNumbers.{layoutFrom, viewFrom, numberedLeft, openedLeft, viewedLeft, blockLeft}
 use Rattle.boundary_opening.specs.BoundaryOpening.{keysLeft}
 use Rattle.boundary_access.specs.BoundaryAccess.{WriteCall}
+use Rattle.guarantees.specs.Writing.{Request, answerTo}
 
 -- every refusal is told by its own number, and every acceptance by 0
 pub record TellsNumbers : Type 0 where
@@ -29,6 +32,8 @@ pub record TellsNumbers : Type 0 where
   pub numberedRefused : (number : ℕ) → numberedRefusal (numbered.Refused number) ≡ number
   pub madeAccepted : (view : View) → viewedRefusal (making.Made view) ≡ 0
   pub madeRefused : (number : ℕ) → viewedRefusal (making.Refused number) ≡ number
+  pub headerDone : writtenRefusal writing.Done ≡ 0
+  pub headerRefused : (number : ℕ) → writtenRefusal (writing.Refused number) ≡ number
   pub accessAccepted : answerRefusal access.Accepted ≡ 0
   pub accessRefused : (number : ℕ) → answerRefusal (access.Refused number) ≡ number
 
@@ -43,6 +48,7 @@ pub record ZeroAccepts {A R : Type 0} (number : R → ℕ) (accepted : A → R) 
 pub record ReturnsZero : Type 0 where
   pub locates : (code hostSize : ℕ) → ZeroAccepts numberedRefusal numbered.Number (located code hostSize)
   pub opens : (candidates codes : List ℕ) (hostSize : ℕ) → ZeroAccepts openedRefusal opening.Accepted (opened candidates codes hostSize)
+  pub headers : (request : Request) (before : List ℕ) → (writtenRefusal (answerTo request before) ≡ 0) ↔ (answerTo request before ≡ writing.Done)
   pub hostSectors : (layout : Layout) (user : ℕ) → ZeroAccepts numberedRefusal numbered.Number (hostSector layout user)
   pub userSectors : (layout : Layout) (host : ℕ) → ZeroAccepts numberedRefusal numbered.Number (userSector layout host)
   pub tweaks : (layout : Layout) (user : ℕ) → ZeroAccepts numberedRefusal numbered.Number (tweakOf layout user .number)

@@ -10,7 +10,7 @@ use Rattle.guarantees.specs.{BoundaryRuns.{Numbers, CarriesRuns, BeginsR
 use Rattle.guarantees.specs.{FromHeaders.FromHeaders, Interleaving.Demand3, Judging.{KeepsRules, JudgesExactly, GivesKeys}}
 use Rattle.guarantees.specs.{MapProgram.{ReadsInput, PrintsLines}, Numbers.{SpellsNumbers, ChecksBytes}}
 use Rattle.guarantees.specs.{Opening.{OpensExactlyWhen, LocatesHeaders}, Parts.KeepsParts, Placing.{PlacesExtents, PlacesNumbers}}
-use Rattle.guarantees.specs.{SectorMap.{MapsExactly, OpenedIsSound}, Views.MakesViews}
+use Rattle.guarantees.specs.{SectorMap.{MapsExactly, OpenedIsSound}, Views.MakesViews, Writing.{Request, WritesExactly, LaysHeaders, ReadsBack, WritesAgain}}
 
 pub record Claims : Type 0 where
   -- what the others are stated in
@@ -18,12 +18,16 @@ pub record Claims : Type 0 where
   pub checksum : ChecksBytes
   pub rules : KeepsRules
   pub extents : (a b : Extent) → SharesLeast a b
-  -- demand 2: headers, opening and the sector map
+  -- demand 2: headers, opening, the writing of headers, and the sector map
   pub judges : (kind hostSize index : ℕ) (h : List ℕ) → JudgesExactly kind hostSize index h
   pub locates : (hostSize : ℕ) → LocatesHeaders hostSize
   pub opens : (candidates codes : List ℕ) (hostSize : ℕ) → OpensExactlyWhen candidates codes hostSize
   pub keys : (candidates : List ℕ) (borrowed : ℕ × ℕ) (keys : List ℕ) (returned : ℕ × ℕ) → GivesKeys candidates borrowed keys returned
   pub openedSound : OpenedIsSound
+  pub written : (request : Request) (before : List ℕ) → WritesExactly request before
+  pub laid : (layout : Layout) (salt keys before : List ℕ) → LaysHeaders layout salt keys before
+  pub readBack : (request : Request) (before : List ℕ) → ReadsBack request before
+  pub writtenAgain : (h : List ℕ) (code hostSize : ℕ) (layout : Layout) (before : List ℕ) → WritesAgain h code hostSize layout before
   pub maps : (layout : Layout) → MapsExactly layout
   -- views, and reads and writes on any of them
   pub views : (outer hiddenLayout : Layout) → MakesViews outer hiddenLayout

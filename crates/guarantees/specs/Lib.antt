@@ -16,3 +16,4 @@ pub mod ReferenceModel
 pub mod SectorMap
 pub mod Table
 pub mod Views
+pub mod Writing

@@ -29,6 +29,9 @@ pub record SpellsNumbers : Type 0 where
   pub written : (size number : ℕ) → littleEndian (littleEndianBytes size number) ≡ number % 256 ^ size
   -- written big-endian: the same, with the bytes in reverse
   pub bigWritten : (size number : ℕ) → bigEndianBytes size number ≡ reverse (littleEndianBytes size number)
+  -- written and read again, and read and written again
+  pub bigRead : (size number : ℕ) → bigEndian (bigEndianBytes size number) ≡ number % 256 ^ size
+  pub bigAgain : (bytes : List ℕ) → ((i : ℕ) → getD bytes i 0 < 256) → bigEndianBytes (length bytes) (bigEndian bytes) ≡ bytes
   -- read into 64 bits: modulo 2^64, and of at most eight bytes the number itself
   pub readModulo : (number size r : ℕ) → ReadAs number size r → r ≡ number % 2 ^ 64
   pub readWhole : (number size r : ℕ) → ReadAs number size r → size ≤ 8 → r ≡ number

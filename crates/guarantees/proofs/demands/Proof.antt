@@ -6,13 +6,17 @@ use Rattle.guarantees.proofs.Extents.{shares-least}
 use Rattle.guarantees.proofs.FromHeaders.{from-headers}
 use Rattle.guarantees.proofs.Interleaving.{demand-3}
 use Rattle.guarantees.proofs.Judging.{keeps-rules, judges-exactly, gives-keys}
+use Rattle.guarantees.proofs.LaysHeaders.{lays-headers}
 use Rattle.guarantees.proofs.MapProgram.{reads-input, prints-lines}
 use Rattle.guarantees.proofs.Numbers.{spells-numbers, checks-bytes}
 use Rattle.guarantees.proofs.Opening.{opens-exactly-when, locates-headers}
 use Rattle.guarantees.proofs.Parts.{keeps-parts}
 use Rattle.guarantees.proofs.Placing.{places-extents, places-numbers}
+use Rattle.guarantees.proofs.ReadsBack.{reads-back}
 use Rattle.guarantees.proofs.SectorMap.{maps-exactly, opened-sound}
 use Rattle.guarantees.proofs.Views.{makes-views}
+use Rattle.guarantees.proofs.WritesAgain.{writes-again}
+use Rattle.guarantees.proofs.WritesExactly.{writes-exactly}
 use Rattle.guarantees.proofs.demands.Statement.{statement}
 use Rattle.guarantees.proofs.demands.Tie as tie
 
@@ -28,6 +32,10 @@ returns c =
       opens = opens-exactly-when;
       keys = gives-keys;
       openedSound = opened-sound;
+      written = writes-exactly;
+      laid = lays-headers;
+      readBack = reads-back;
+      writtenAgain = writes-again;
       maps = maps-exactly;
       views = makes-views;
       parts = keeps-parts;

@@ -1,0 +1,79 @@
+-- The checks of the writer reflect what the guarantees say of them, and what is asked for is the layout that they judge. Assumes nothing.
+use Prim.Native.Nat.{ℕ, _≤_}
+use mathlib.Core.Path.{_≡_}
+use lib.{Dec.leb, ListN.length}
+use Rattle.layout.specs.{Rules.{hostSizeRule, dataAreaRule}, declared.Layout.Layout}
+use Rattle.locations.specs.Locations.{codeRule}
+use Rattle.header.specs.Header.{magicNumber, versionRule}
+use Rattle.new_header.specs.NewHeader.{newLengthsRule}
+use Rattle.header_writing.specs.HeaderWriting.{askedLayout}
+use Rattle.guarantees.specs.Header.{DataArea}
+use Rattle.guarantees.specs.Writing.{Request, layoutFor, rightLengths, knownMagic, knownCode, allowedHost, supportedVersion, allowedArea, Passes}
+use Rattle.guarantees.proofs.CandidateLaws.{location-of-kind, kind-of-says}
+use Rattle.guarantees.proofs.HeaderLaws.{magic-number-says, magic-reflects}
+use Rattle.guarantees.proofs.LineLaws.{supported-reflects}
+use Rattle.guarantees.proofs.Reflects.{Reflects, reflects-map}
+use Rattle.guarantees.proofs.RuleReflections.{new-lengths-reflects, code-reflects, host-size-reflects}
+use Rattle.guarantees.proofs.SoundLaws.{data-area-rule-reflects}
+
+-- what the definitions judge
+abbrev pub asked : Request → Layout
+asked r = askedLayout (r .magic) (r .version) (r .minProgramVersion) (r .code) (r .hostSize) (r .dataStart) (r .dataSize)
+
+-- for a known code it is the layout that the guarantees speak of
+pub asked-is : (r : Request) → r .code ≤ 3 → asked r ≡ layoutFor (magicNumber (r .magic)) r
+unfolding askedLayout
+asked-is r known =
+    let kind = location-of-kind (r .code) known in
+    λ i. record {
+      «host_size» = r .hostSize;
+      kind = kind i;
+      magic = magicNumber (r .magic);
+      version = r .version;
+      «min_program_version» = r .minProgramVersion;
+      «data_start» = r .dataStart;
+      «data_size» = r .dataSize;
+      candidate = 0;
+    }
+
+-- a data area has nothing to do with the magic
+any-magic : (r : Request) (a b : ℕ) → DataArea (layoutFor a r) (r .dataSize) → DataArea (layoutFor b r) (r .dataSize)
+any-magic r a b fits =
+    record {
+      atLeast = fits .atLeast;
+      sizeMultiple = fits .sizeMultiple;
+      startMultiple = fits .startMultiple;
+      encrypted = fits .encrypted;
+      standardStart = fits .standardStart;
+      hiddenStart = fits .hiddenStart;
+      fits = fits .fits;
+    }
+
+module _ (r : Request) (size : ℕ) where
+  pub lengths-pass : Reflects (Passes rightLengths r size) (newLengthsRule (length (r .salt)) (length (r .keys)) size)
+  unfolding Passes
+  lengths-pass = new-lengths-reflects (length (r .salt)) (length (r .keys)) size
+
+  pub magic-passes : Reflects (Passes knownMagic r size) (leb (asked r .magic) 1)
+  unfolding Passes askedLayout
+  magic-passes = magic-reflects (magic-number-says (r .magic))
+
+  pub code-passes : Reflects (Passes knownCode r size) (codeRule (r .code))
+  unfolding Passes
+  code-passes = code-reflects (r .code)
+
+  pub host-passes : Reflects (Passes allowedHost r size) (hostSizeRule (asked r .«host_size»))
+  unfolding Passes askedLayout
+  host-passes = host-size-reflects (r .hostSize)
+
+  pub version-passes : Passes knownMagic r size → Reflects (Passes supportedVersion r size) (versionRule (asked r .magic) (asked r .version))
+  unfolding Passes askedLayout
+  version-passes known = supported-reflects (r .magic) (r .version) known (magic-number-says (r .magic))
+
+  pub area-passes : Passes knownCode r size → Reflects (Passes allowedArea r size) (dataAreaRule (asked r))
+  unfolding Passes
+  area-passes known =
+      let told = layoutFor (magicNumber (r .magic)) r in
+      rw (asked-is r known)
+      (reflects-map (λ p. any-magic r (magicNumber (r .magic)) 0 (p .1)) (λ a. (kind-of-says (r .code), any-magic r 0 (magicNumber (r .magic)) a))
+      (data-area-rule-reflects told))

@@ -1,0 +1,5 @@
+mod ContentLaws
+pub mod OpenedOne
+pub mod Parts
+pub mod ReadBack
+pub mod WrittenAgain

@@ -1,0 +1,103 @@
+-- `header_writing::judge` meets its contract: each return is under the tests of the lines before it, in their order.
+-- Assumes nothing.
+use mathlib.Core.{Path.{_≡_, refl, sym, _∙_}, Bool.true}
+use borrow.Author.Needs.{needs}
+use borrow.Author.Tests.{le-leb, lt-leb, not-true, not-false}
+use Rattle.answers.specs.Answers.{line}
+use Rattle.layout.specs.Rules.{hostSizeRule, dataAreaRule}
+use Rattle.locations.specs.Locations.{codeRule}
+use Rattle.header.specs.Header.{versionRule}
+use Rattle.new_header.specs.NewHeader.{newLengthsRule}
+use Rattle.header_writing.specs.HeaderWriting.{headerAnswer}
+use Rattle.header_writing.specs.declared.Written.the-variants.{Done, Refused}
+use Rattle.header_writing.proofs.judge.Statement.{statement}
+use Rattle.header_writing.proofs.judge.Tie as tie
+
+lengths-fit-requires : tie.Need-lengths-fit-requires
+lengths-fit-requires c κs = search needs
+
+returns : tie.Need-returns
+unfolding headerAnswer
+returns c = simp (sym (c .before .lengths-fit .ensures) ∙ not-true _ (c .if1 .taken))
+
+-- what the first test tells, once it is passed
+lengths-kept : (c : tie.Else1)
+    → let args = c .before .before .args in
+    newLengthsRule (args .salt-size) (args .keys-size) (args .header-size) ≡ true
+lengths-kept c = sym (c .before .lengths-fit .ensures) ∙ not-false _ (c .if1 .left)
+
+returns-2 : tie.Need-returns-2
+unfolding headerAnswer
+returns-2 c = simp (lengths-kept (c .before .before), lt-leb _ _ (c .if2 .taken))
+
+-- what the first three tell of the answer, once they are passed: it is that of the others
+numbers-left : (c : tie.Else3)
+    → let lengths = c .before .before .before in
+    let args = lengths .before .before .args in
+    headerAnswer (args .code) (args .layout) (args .salt-size) (args .keys-size) (args .header-size)
+    ≡ line (Refused 3) (hostSizeRule (args .layout .«host_size»))
+    (line (Refused 5) (versionRule (args .layout .magic) (args .layout .version)) (line (Refused 10) (dataAreaRule (args .layout)) Done))
+unfolding headerAnswer codeRule
+numbers-left c =
+    let magic = c .before in
+    simp (lengths-kept (magic .before .before), le-leb _ _ (magic .if2 .left), le-leb _ _ (c .if3 .left))
+
+returns-3 : tie.Need-returns-3
+unfolding headerAnswer codeRule
+returns-3 c =
+    let magic = c .before in
+    simp (lengths-kept (magic .before .before), le-leb _ _ (magic .if2 .left), lt-leb _ _ (c .if3 .taken))
+
+is-host-size-requires : tie.Need-is-host-size-requires
+is-host-size-requires c κs = search needs
+
+returns-4 : tie.Need-returns-4
+returns-4 c =
+    let host = c .before in
+    rw (numbers-left (host .before), sym (host .is-host-size .ensures) ∙ not-true _ (c .if4 .taken)) refl
+
+keeps-version-requires : tie.Need-keeps-version-requires
+keeps-version-requires c κs = search needs
+
+-- .. and once the host's size is right, those of the version and the data area; then that of the area alone
+version-left : (c : tie.Else4)
+    → let codes = c .before .before in
+    let args = codes .before .before .before .before .before .args in
+    headerAnswer (args .code) (args .layout) (args .salt-size) (args .keys-size) (args .header-size)
+    ≡ line (Refused 5) (versionRule (args .layout .magic) (args .layout .version)) (line (Refused 10) (dataAreaRule (args .layout)) Done)
+version-left c = rw (numbers-left (c .before .before), sym (c .before .is-host-size .ensures) ∙ not-false _ (c .if4 .left)) refl
+
+area-left : (c : tie.Else5)
+    → let host = c .before .before in
+    let codes = host .before .before in
+    let args = codes .before .before .before .before .before .args in
+    headerAnswer (args .code) (args .layout) (args .salt-size) (args .keys-size) (args .header-size) ≡ line (Refused 10) (dataAreaRule (args .layout)) Done
+area-left c = rw (version-left (c .before .before), sym (c .before .keeps-version .ensures) ∙ not-false _ (c .if5 .left)) refl
+
+returns-5 : tie.Need-returns-5
+returns-5 c = rw (version-left (c .before .before), sym (c .before .keeps-version .ensures) ∙ not-true _ (c .if5 .taken)) refl
+
+is-data-area-requires : tie.Need-is-data-area-requires
+is-data-area-requires c κs = search needs
+
+returns-6 : tie.Need-returns-6
+returns-6 c = rw (area-left (c .before .before), sym (c .before .is-data-area .ensures) ∙ not-true _ (c .if6 .taken)) refl
+
+returns-7 : tie.Need-returns-7
+returns-7 c = rw (area-left (c .before .before), sym (c .before .is-data-area .ensures) ∙ not-false _ (c .if6 .left)) refl
+
+pub judge-spec : {M : Type 1} → statement M
+judge-spec =
+    tie.close
+    (tie.spec
+    lengths-fit-requires
+    returns
+    returns-2
+    returns-3
+    is-host-size-requires
+    returns-4
+    keeps-version-requires
+    returns-5
+    is-data-area-requires
+    returns-6
+    returns-7)
