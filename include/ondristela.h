@@ -81,7 +81,8 @@ extern "C" {
 
 /* refusals: written by tools/refusals.py from refusals.txt */
 
-/* The candidates are not 1 to 64 headers of 512 bytes, with one location code for each. */
+/* The candidates are not 1 to 64 headers of 512 bytes, with one location code for each; for a header to be
+ * written, the salt is not 64 bytes long, the keys are not 256, or the header is not 512. */
 #define ONDRISTELA_REFUSED_LENGTHS 1
 
 /* A location code is above 3; the codes are 0 standard, 1 hidden, 2 standard backup, 3 hidden backup. */
@@ -146,11 +147,15 @@ extern "C" {
  * and the view now refuses every write. */
 #define ONDRISTELA_REFUSED_PROTECTED 18
 
+/* The magic of the header to be written is neither VERA nor TRUE. */
+#define ONDRISTELA_REFUSED_MAGIC 19
+
 /* end of refusals */
 
-/* Bytes of a sector, of a header, and of the keys in a header. */
+/* Bytes of a sector, of a header, and of the salt and the keys in a header. */
 #define ONDRISTELA_SECTOR_SIZE 512
 #define ONDRISTELA_HEADER_SIZE 512
+#define ONDRISTELA_SALT_SIZE 64
 #define ONDRISTELA_KEYS_SIZE 256
 
 /* The most candidates in one opening, and the most sectors in one read or write. */
@@ -227,6 +232,16 @@ uint64_t ondristela_open(const uint8_t *candidates, size_t candidates_size, cons
 uint64_t ondristela_keys(const uint8_t *candidates, size_t candidates_size, const uint8_t *codes,
                          size_t codes_size, uint64_t host_size, struct ondristela_range *range);
 
+/* Writes the deciphered header of a volume over `header`, 512 bytes: both checksums are made, and what no field
+ * takes is zero. `magic` is the four letters VERA or TRUE; `salt` is 64 bytes and `keys` 256. The code makes the
+ * volume standard or hidden. ondristela_open accepts what is written, for the same code and host size, with the
+ * same magic, versions, data_start and data_size.
+ * Refusals: 1, 19, 2, 3, 5, 10, tested in this order. They leave the header as it was. */
+uint64_t ondristela_write_header(const uint8_t magic[4], uint16_t version, uint16_t min_program_version,
+                                 uint8_t code, uint64_t host_size, uint64_t data_start, uint64_t data_size,
+                                 const uint8_t *salt, size_t salt_size, const uint8_t *keys,
+                                 size_t keys_size, uint8_t *header, size_t header_size);
+
 /* Stores the host sector that holds a user sector: one of the volume, counted from 0. Host sectors are
  * counted from the host's first byte, whatever the volume's kind. The number is also the user sector's tweak
  * number.
@@ -291,7 +306,9 @@ static inline const char *ondristela_refusal_text(uint64_t number)
 
     /* sentences: written by tools/refusals.py from refusals.txt */
     case ONDRISTELA_REFUSED_LENGTHS:
-        return "the candidates are not 1 to 64 headers of 512 bytes, with one location code for each";
+        return "the candidates are not 1 to 64 headers of 512 bytes, with one location code for each; for "
+               "a header to be written, the salt is not 64 bytes long, the keys are not 256, or the header "
+               "is not 512";
     case ONDRISTELA_REFUSED_CODE:
         return "a location code is above 3; the codes are 0 standard, 1 hidden, 2 standard backup, 3 "
                "hidden backup";
@@ -341,6 +358,8 @@ static inline const char *ondristela_refusal_text(uint64_t number)
     case ONDRISTELA_REFUSED_PROTECTED:
         return "a sector of the write lies in the protected range, which holds the hidden volume; nothing "
                "was written, and the view now refuses every write";
+    case ONDRISTELA_REFUSED_MAGIC:
+        return "the magic of the header to be written is neither VERA nor TRUE";
     /* end of sentences */
 
     default:

@@ -21,6 +21,16 @@ pub enum Magic {
     True,
 }
 
+impl Magic {
+    /// The four letters that a header has.
+    pub fn letters(self) -> [u8; 4] {
+        match self {
+            Magic::Vera => *b"VERA",
+            Magic::True => *b"TRUE",
+        }
+    }
+}
+
 /// Where a volume lies in its host, and what its header tells. Anybody may make one up: each call checks
 /// that it is sound.
 #[derive(Clone, Copy, Debug, PartialEq, Eq, Hash)]

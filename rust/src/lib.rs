@@ -18,6 +18,8 @@
 //! # }
 //! ```
 //!
+//! [`NewHeader`] writes the header of a new volume, which [`open`] then accepts.
+//!
 //! A disk that is too large to map is read and written by the caller itself, where the view says. A write asks
 //! [`View::write_extent`] each time, and so is refused what [`View::write`] would be.
 //!
@@ -32,12 +34,14 @@
 //! # }
 //! ```
 
+mod header;
 mod layout;
 mod opening;
 pub mod raw;
 mod refusal;
 mod view;
 
+pub use header::NewHeader;
 pub use layout::{Kind, Layout, Magic};
 pub use opening::{key_bytes, open, Location};
 pub use refusal::Refusal;
@@ -48,6 +52,12 @@ pub const SECTOR_SIZE: usize = 512;
 
 /// A header's bytes.
 pub const HEADER_SIZE: usize = 512;
+
+/// The bytes of a header's salt, its first ones.
+pub const SALT_SIZE: usize = 64;
+
+/// The bytes of a header's keys, its last ones.
+pub const KEYS_SIZE: usize = 256;
 
 /// At most so many candidates in one opening.
 pub const MAX_CANDIDATES: usize = 64;

@@ -21,6 +21,7 @@ mod library {
         pub fn ondristela_location(code: u8, host_size: u64, offset: *mut [u64; 1]) -> u64;
         pub fn ondristela_open(candidates: *const u8, candidates_size: usize, codes: *const u8, codes_size: usize, host_size: u64, layout: *mut LayoutNumbers) -> u64;
         pub fn ondristela_keys(candidates: *const u8, candidates_size: usize, codes: *const u8, codes_size: usize, host_size: u64, range: *mut [u64; 2]) -> u64;
+        pub fn ondristela_write_header(magic: *const [u8; 4], version: u16, min_program_version: u16, code: u8, host_size: u64, data_start: u64, data_size: u64, salt: *const u8, salt_size: usize, keys: *const u8, keys_size: usize, header: *mut u8, header_size: usize) -> u64;
         pub fn ondristela_host_sector(layout: *const LayoutNumbers, user: u64, host: *mut [u64; 1]) -> u64;
         pub fn ondristela_user_sector(layout: *const LayoutNumbers, host: u64, user: *mut [u64; 1]) -> u64;
         pub fn ondristela_tweak(layout: *const LayoutNumbers, user: u64, block: *mut [u8; 16]) -> u64;
@@ -66,6 +67,39 @@ pub fn keys(candidates: &[u8], codes: &[u8], host_size: u64, range: &mut [u64; 2
             codes.len(),
             host_size,
             range,
+        )
+    }
+}
+
+/// Writes the header of a volume over all of `header`.
+#[allow(clippy::too_many_arguments)]
+pub fn write_header(
+    magic: &[u8; 4],
+    version: u16,
+    min_program_version: u16,
+    code: u8,
+    host_size: u64,
+    data_start: u64,
+    data_size: u64,
+    salt: &[u8],
+    keys: &[u8],
+    header: &mut [u8],
+) -> u64 {
+    unsafe {
+        library::ondristela_write_header(
+            magic,
+            version,
+            min_program_version,
+            code,
+            host_size,
+            data_start,
+            data_size,
+            salt.as_ptr(),
+            salt.len(),
+            keys.as_ptr(),
+            keys.len(),
+            header.as_mut_ptr(),
+            header.len(),
         )
     }
 }

@@ -19,7 +19,8 @@ use std::fmt;
 #[repr(u8)]
 pub enum Refusal {
     // variants: written by tools/refusals.py from refusals.txt
-    /// The candidates are not 1 to 64 headers of 512 bytes, with one location code for each.
+    /// The candidates are not 1 to 64 headers of 512 bytes, with one location code for each; for a header
+    /// to be written, the salt is not 64 bytes long, the keys are not 256, or the header is not 512.
     Lengths = 1,
     /// A location code is above 3; the codes are 0 standard, 1 hidden, 2 standard backup, 3 hidden
     /// backup.
@@ -68,13 +69,15 @@ pub enum Refusal {
     /// A sector of the write lies in the protected range, which holds the hidden volume; nothing was
     /// written, and the view now refuses every write.
     Protected = 18,
+    /// The magic of the header to be written is neither VERA nor TRUE.
+    Magic = 19,
     // end of variants
 }
 
 impl Refusal {
     /// All, in the order of their numbers.
     // list: written by tools/refusals.py from refusals.txt
-    pub const ALL: [Refusal; 18] = [
+    pub const ALL: [Refusal; 19] = [
         Refusal::Lengths,
         Refusal::Code,
         Refusal::HostSize,
@@ -93,6 +96,7 @@ impl Refusal {
         Refusal::Outside,
         Refusal::Locked,
         Refusal::Protected,
+        Refusal::Magic,
     ];
     // end of list
 
@@ -111,7 +115,9 @@ impl Refusal {
         // sentences: written by tools/refusals.py from refusals.txt
         match self {
             Refusal::Lengths => {
-                "the candidates are not 1 to 64 headers of 512 bytes, with one location code for each"
+                "the candidates are not 1 to 64 headers of 512 bytes, with one location code for each; for \
+                 a header to be written, the salt is not 64 bytes long, the keys are not 256, or the header \
+                 is not 512"
             }
             Refusal::Code => {
                 "a location code is above 3; the codes are 0 standard, 1 hidden, 2 standard backup, 3 \
@@ -169,6 +175,7 @@ impl Refusal {
                 "a sector of the write lies in the protected range, which holds the hidden volume; nothing \
                  was written, and the view now refuses every write"
             }
+            Refusal::Magic => "the magic of the header to be written is neither VERA nor TRUE",
         }
         // end of sentences
     }

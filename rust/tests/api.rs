@@ -1,6 +1,9 @@
 //! The crate's own types over the library's numbers.
 
-use ondristela::{key_bytes, open, raw, Kind, Layout, Location, Magic, Refusal, View};
+use ondristela::{
+    key_bytes, open, raw, Kind, Layout, Location, Magic, NewHeader, Refusal, View, HEADER_SIZE, KEYS_SIZE,
+    SALT_SIZE,
+};
 
 const HOST_SIZE: u64 = 1_048_576;
 const OUTER_HEADER: &[u8; 512] = include_bytes!("../../samples/tcplay-1048576-code0.header");
@@ -69,6 +72,80 @@ fn refused_openings() {
         assert_eq!(open(candidates, codes, host_size), Err(refusal));
         assert_eq!(key_bytes(candidates, codes, host_size), Err(refusal));
     }
+}
+
+/// The outer volume's header, to be written as it is.
+fn new_outer() -> NewHeader<'static> {
+    NewHeader {
+        magic: Magic::True,
+        version: 5,
+        min_program_version: 7,
+        location: Location::Standard,
+        host_size: HOST_SIZE,
+        data_start: 131_072,
+        data_size: 786_432,
+        salt: &OUTER_HEADER[..SALT_SIZE],
+        keys: &OUTER_HEADER[HEADER_SIZE - KEYS_SIZE..],
+    }
+}
+
+#[test]
+fn new_headers() {
+    assert_eq!(new_outer().bytes(), Ok(*OUTER_HEADER));
+    let mut header = [0xA5; HEADER_SIZE];
+    assert_eq!(new_outer().write(&mut header), Ok(()));
+    assert_eq!(header, *OUTER_HEADER);
+    let backup = NewHeader { magic: Magic::Vera, location: Location::HiddenBackup, ..new_outer() };
+    let layout = Layout { kind: Kind::Hidden, magic: Magic::Vera, ..outer() };
+    assert_eq!(open(&backup.bytes().unwrap(), &[3], HOST_SIZE), Ok(layout));
+}
+
+/// Taken apart, the header has the fields that it was made of; and it may be written with other ones.
+#[test]
+fn headers_taken_apart() {
+    let apart = NewHeader::from_header(OUTER_HEADER, Location::Standard, HOST_SIZE).unwrap();
+    assert_eq!((apart.magic, apart.version, apart.min_program_version), (Magic::True, 5, 7));
+    assert_eq!((apart.host_size, apart.data_start, apart.data_size), (HOST_SIZE, 131_072, 786_432));
+    assert_eq!((apart.salt, apart.keys), (new_outer().salt, new_outer().keys));
+    let salted = NewHeader { salt: &[0x5A; SALT_SIZE], ..apart }.bytes().unwrap();
+    assert_eq!(
+        (&salted[..SALT_SIZE], &salted[SALT_SIZE..]),
+        (&[0x5A; SALT_SIZE][..], &OUTER_HEADER[SALT_SIZE..])
+    );
+    let hidden = NewHeader::from_header(OUTER_HEADER, Location::Hidden, HOST_SIZE);
+    assert_eq!(hidden.err(), Some(Refusal::HiddenSize));
+    let longer = NewHeader::from_header(&[0; HEADER_SIZE + 1], Location::Standard, HOST_SIZE);
+    assert_eq!(longer.err(), Some(Refusal::Lengths));
+}
+
+#[test]
+fn refused_new_headers() {
+    let refusals = [
+        (NewHeader { salt: &[0; 63], ..new_outer() }, Refusal::Lengths),
+        (NewHeader { keys: &[0; 257], ..new_outer() }, Refusal::Lengths),
+        (NewHeader { host_size: HOST_SIZE + 1, ..new_outer() }, Refusal::HostSize),
+        (NewHeader { version: 3, ..new_outer() }, Refusal::Version),
+        (NewHeader { data_size: 786_944, ..new_outer() }, Refusal::DataArea),
+    ];
+    for (new, refusal) in refusals {
+        let mut header = [0xA5; HEADER_SIZE];
+        assert_eq!((new.write(&mut header), header), (Err(refusal), [0xA5; HEADER_SIZE]));
+        assert_eq!(new.bytes(), Err(refusal));
+    }
+    let mut header = [0xA5; HEADER_SIZE + 1];
+    assert_eq!(new_outer().write(&mut header), Err(Refusal::Lengths));
+    assert_eq!(header, [0xA5; HEADER_SIZE + 1]);
+}
+
+/// The crate's types have no other magic than these two. The library's numbers have: it is refused.
+#[test]
+fn magics() {
+    let header = &mut [0xA5; HEADER_SIZE];
+    let answers = [Magic::Vera.letters(), Magic::True.letters(), *b"VERa"].map(|magic| {
+        raw::write_header(&magic, 5, 7, 0, HOST_SIZE, 131_072, 512, &[0; 64], &[0; 256], header)
+    });
+    assert_eq!(answers.map(Refusal::from_number), [None, None, Some(Refusal::Magic)]);
+    assert_eq!([Magic::Vera.letters(), Magic::True.letters()], [*b"VERA", *b"TRUE"]);
 }
 
 #[test]
@@ -166,5 +243,7 @@ fn refusals_and_their_numbers() {
         assert_eq!(Refusal::from_number(number), Some(refusal));
         assert!(refusal.to_string().ends_with(&format!(" (refusal {number})")));
     }
-    assert_eq!([0, 19, 256 + 1, u64::MAX].map(Refusal::from_number), [None; 4]);
+    assert_eq!([0, 20, 256 + 1, u64::MAX].map(Refusal::from_number), [None; 4]);
+    let magic = "the magic of the header to be written is neither VERA nor TRUE (refusal 19)";
+    assert_eq!(Refusal::Magic.to_string(), magic);
 }

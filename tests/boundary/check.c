@@ -32,7 +32,7 @@ void fill(void *memory, size_t size)
 
 int is_filled(const void *memory, size_t size)
 {
-    uint8_t pattern[128]; /* as large as the largest struct, or larger */
+    uint8_t pattern[1024]; /* as large as the largest struct or buffer that is asked about, or larger */
 
     fill(pattern, sizeof pattern);
     return size <= sizeof pattern && memcmp(memory, pattern, size) == 0;

@@ -13,6 +13,8 @@ int main(void)
     test_sector_map();
     test_opening();
     test_header_rules();
+    test_header_writing();
+    test_writing_rules();
     test_search();
     test_views();
     test_access();

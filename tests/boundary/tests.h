@@ -8,6 +8,8 @@ void test_locations(void);
 void test_sector_map(void);
 void test_opening(void);
 void test_header_rules(void);
+void test_header_writing(void);
+void test_writing_rules(void);
 void test_search(void);
 void test_views(void);
 void test_access(void);

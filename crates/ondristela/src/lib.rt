@@ -4,11 +4,13 @@
 // closes the view's lock.
 // Assumes nothing; no public function has a `requires`.
 ghost use mathlib.Core.Path.{_≡_};
+ghost use lib.ListN.{length};
 ghost use Rattle.answers.specs.Answers.{numberedRefusal};
 ghost use Rattle.crc32.specs.Crc32.{crc32};
 ghost use Rattle.layout.specs.Opened.{openedRefusal};
 ghost use Rattle.locations.specs.Locations.{located};
 ghost use Rattle.opening.specs.Opening.{opened};
+ghost use Rattle.header_writing.specs.HeaderWriting.{writtenRefusal, askedLayout, headerAnswer, headerLeft};
 ghost use Rattle.sector_map.specs.SectorMap.{hostSector, userSector, tweakOf};
 ghost use Rattle.making.specs.Views.{plainView, protectedView, viewedRefusal};
 ghost use Rattle.boundary_numbers.specs.BoundaryNumbers.{layoutFrom, numberedLeft, openedLeft, viewedLeft, blockLeft};
@@ -53,6 +55,37 @@ pub extern "C" fn ondristela_keys(
     ensures { λ _. ⌜ now (range .exit) ≡ keysLeft (opened (now (candidates .entry)) (now (codes .entry)) «host_size») (now (range .entry)) ⌝ }
 {
     boundary_opening::keys(candidates, codes, host_size, range)
+}
+
+// Writes the header of a volume, for a location code and a host's size, over all of header.
+#[no_mangle]
+pub extern "C" fn ondristela_write_header(
+    magic: &[u8; 4],
+    version: u16,
+    min_program_version: u16,
+    code: u8,
+    host_size: u64,
+    data_start: u64,
+    data_size: u64,
+    salt: &[u8],
+    keys: &[u8],
+    header: &mut [u8],
+) -> u64
+    ensures { λ r. ⌜ r ≡ writtenRefusal (headerAnswer code (askedLayout (now (magic .entry)) version «min_program_version» code «host_size» «data_start» «data_size») (length (now (salt .entry))) (length (now (keys .entry))) (length (now (header .entry)))) ⌝ }
+    ensures { λ _. ⌜ now (header .exit) ≡ headerLeft (headerAnswer code (askedLayout (now (magic .entry)) version «min_program_version» code «host_size» «data_start» «data_size») (length (now (salt .entry))) (length (now (keys .entry))) (length (now (header .entry)))) (askedLayout (now (magic .entry)) version «min_program_version» code «host_size» «data_start» «data_size») (now (salt .entry)) (now (keys .entry)) (now (header .entry)) ⌝ }
+{
+    boundary_headers::write_header(
+        magic,
+        version,
+        min_program_version,
+        code,
+        host_size,
+        data_start,
+        data_size,
+        salt,
+        keys,
+        header,
+    )
 }
 
 // The host sector that holds a user sector.

@@ -110,8 +110,7 @@ fn mistaken_checksum(bytes: &mut Candidate, random: &mut Random) {
 
 /// Four bytes close to a magic, with right checksums.
 fn wrong_magic(mut header: Header, bytes: &mut Candidate, random: &mut Random) {
-    let close = [b"VERa", b"vERA", b"TRUe", b"tRUE", b"VEUE", b"TRRA", b"AREV", b"EURT", b"\0ERA", b"VER\0"];
-    header.magic = *random.pick(&close);
+    header.magic = changes::close_magic(random);
     header.lay(bytes);
     write_checksums(bytes);
 }

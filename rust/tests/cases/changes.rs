@@ -17,7 +17,7 @@ pub fn change_field(header: &mut Header, host_size: u64, random: &mut Random) {
         4 => header.encrypted_size = beside(header.data_size, random),
         5 => header.data_size = beside(header.data_size, random),
         6 => resize(header, data_size(header.data_start, host_size, random)),
-        7 => header.data_start = data_start(header, host_size, random),
+        7 => header.data_start = data_start(header.data_size, host_size, random),
         8 => wrap_sum(header, host_size, random),
         9 => header.reserved[random.below(16) as usize] = random.between(1, 255) as u8,
         10 => header.reserved_late[random.below(120) as usize] = random.between(1, 255) as u8,
@@ -31,7 +31,8 @@ pub fn change_byte(bytes: &mut Candidate, range: Range<u64>, random: &mut Random
     bytes[position] ^= random.between(1, 255) as u8;
 }
 
-fn version(random: &mut Random) -> u16 {
+/// Versions on both sides of those that a magic has, some with their bytes exchanged.
+pub fn version(random: &mut Random) -> u16 {
     if random.chance(20) {
         return random.number() as u16;
     }
@@ -81,7 +82,7 @@ fn resize(header: &mut Header, size: u64) {
 }
 
 /// Data sizes at the boundaries: the least, the largest that fits, and so large that sums wrap.
-fn data_size(data_start: u64, host_size: u64, random: &mut Random) -> u64 {
+pub fn data_size(data_start: u64, host_size: u64, random: &mut Random) -> u64 {
     let largest = (host_size - HEADERS_SIZE).saturating_sub(data_start);
     let any = random.of_any_size();
     random.pick(&[
@@ -109,8 +110,9 @@ fn data_size(data_start: u64, host_size: u64, random: &mut Random) -> u64 {
     ])
 }
 
-fn data_start(header: &Header, host_size: u64, random: &mut Random) -> u64 {
-    let latest = (host_size - HEADERS_SIZE).saturating_sub(header.data_size);
+/// Data starts at the boundaries: the earliest, the latest that fits, and so late that sums wrap.
+pub fn data_start(data_size: u64, host_size: u64, random: &mut Random) -> u64 {
+    let latest = (host_size - HEADERS_SIZE).saturating_sub(data_size);
     let any = random.of_any_size();
     random.pick(&[
         0,
@@ -127,7 +129,7 @@ fn data_start(header: &Header, host_size: u64, random: &mut Random) -> u64 {
         latest + 1,
         latest + 512,
         0u64.wrapping_sub(HEADERS_SIZE),
-        0u64.wrapping_sub(header.data_size),
+        0u64.wrapping_sub(data_size),
         0u64.wrapping_sub(512),
         u64::MAX,
         1 << 63,
@@ -136,13 +138,24 @@ fn data_start(header: &Header, host_size: u64, random: &mut Random) -> u64 {
     ])
 }
 
-/// A start and a size near 2^64 whose sum, taken in 64 bits, is a number that fits.
 fn wrap_sum(header: &mut Header, host_size: u64, random: &mut Random) {
+    let [start, size] = wrapping_area(header.hidden_size != 0, host_size, random);
+    header.data_start = start;
+    resize(header, size);
+}
+
+/// A start and a size near 2^64 whose sum, taken in 64 bits, is a number that fits.
+pub fn wrapping_area(is_hidden: bool, host_size: u64, random: &mut Random) -> [u64; 2] {
     let fits = [0, 512, HEADERS_SIZE, HEADERS_SIZE + 512, host_size - HEADERS_SIZE, host_size];
     let sum = random.pick(&fits);
     let standard_start = [HEADERS_SIZE, 0u64.wrapping_sub(HEADERS_SIZE)];
     let huge_start = [0u64.wrapping_sub(HEADERS_SIZE), 0u64.wrapping_sub(512), 1 << 63, HEADERS_SIZE + 512];
-    let start = if header.hidden_size == 0 { random.pick(&standard_start) } else { random.pick(&huge_start) };
-    header.data_start = start;
-    resize(header, sum.wrapping_sub(start));
+    let start = if is_hidden { random.pick(&huge_start) } else { random.pick(&standard_start) };
+    [start, sum.wrapping_sub(start)]
+}
+
+/// Four bytes close to a magic.
+pub fn close_magic(random: &mut Random) -> [u8; 4] {
+    let close = [b"VERa", b"vERA", b"TRUe", b"tRUE", b"VEUE", b"TRRA", b"AREV", b"EURT", b"\0ERA", b"VER\0"];
+    *random.pick(&close)
 }

@@ -1,13 +1,16 @@
 //! How often each answer was reached, so that a test is known to try what it is about.
 
+/// The answers are 0 and the refusals 1 to 19.
+const ANSWERS: usize = 20;
+
 pub struct Coverage {
     of: &'static str,
-    counts: [u64; 19],
+    counts: [u64; ANSWERS],
 }
 
 impl Coverage {
     pub fn new(of: &'static str) -> Coverage {
-        Coverage { of, counts: [0; 19] }
+        Coverage { of, counts: [0; ANSWERS] }
     }
 
     pub fn count(&mut self, answer: u64) {

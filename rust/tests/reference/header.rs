@@ -39,6 +39,15 @@ fn field(candidate: &[u8], range: Range<usize>) -> u64 {
     big_endian(&candidate[range])
 }
 
+/// The min program version, which alone has its low byte first, as it is read and as it is written.
+fn min_program_version(candidate: &[u8]) -> u64 {
+    little_endian(&candidate[MIN_PROGRAM_VERSION])
+}
+
+pub fn min_program_version_bytes(number: u16) -> [u8; 2] {
+    number.to_le_bytes()
+}
+
 fn is_vera(candidate: &[u8]) -> bool {
     candidate[MAGIC] == *b"VERA"
 }
@@ -71,8 +80,12 @@ pub fn first_failing_line(candidate: &[u8], kind: u64, host_size: u64) -> Option
 }
 
 fn version_holds(candidate: &[u8]) -> bool {
-    let version = field(candidate, VERSION);
-    if is_vera(candidate) {
+    version_allowed(&candidate[MAGIC], field(candidate, VERSION))
+}
+
+/// The versions that VERA has, or else TRUE.
+pub fn version_allowed(magic: &[u8], version: u64) -> bool {
+    if magic == b"VERA" {
         (2..=5).contains(&version)
     } else {
         version == 4 || version == 5
@@ -112,7 +125,7 @@ pub fn layout(candidate: &[u8], kind: u64, host_size: u64, index: usize) -> Layo
         kind,
         magic: if is_vera(candidate) { 0 } else { 1 },
         version: field(candidate, VERSION),
-        min_program_version: little_endian(&candidate[MIN_PROGRAM_VERSION]),
+        min_program_version: min_program_version(candidate),
         data_start: field(candidate, DATA_START),
         data_size: field(candidate, DATA_SIZE),
         candidate: index as u64,

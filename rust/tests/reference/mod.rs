@@ -7,6 +7,7 @@
 pub mod access;
 pub mod crc;
 pub mod header;
+pub mod header_writing;
 pub mod headers;
 pub mod layout;
 pub mod model;

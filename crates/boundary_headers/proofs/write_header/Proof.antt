@@ -1,0 +1,45 @@
+-- `boundary_headers::write_header` meets its contract.
+-- Assumes nothing.
+use Prim.Native.Nat.{ℕ}
+use mathlib.Core.{List.List, Path.{_≡_, ap, _∙_}}
+use denote.Ref.{now}
+use lib.ListN.{length}
+use borrow.Author.Needs.{needs}
+use Rattle.header_writing.specs.{HeaderWriting.{writtenRefusal, askedLayout, headerAnswer, headerLeft}, declared.Written.Written}
+use Rattle.boundary_headers.proofs.write_header.Statement.{statement}
+use Rattle.boundary_headers.proofs.write_header.Tie as tie
+
+write-requires : tie.Need-write-requires
+write-requires c κs = search needs
+
+refusal-requires : tie.Need-refusal-requires
+refusal-requires c κs = search needs
+
+cast-result : tie.Need-cast-result
+cast-result c = search needs
+
+same-length : tie.Need-same-length
+same-length c = search needs
+
+returns : tie.Need-returns
+returns c =
+    let write = c .before .before .before in
+    let args = write .before .before .before .before .before .before .args in
+    let salt : List ℕ = now (args .salt) in
+    let keys : List ℕ = now (args .keys) in
+    let header : List ℕ = now (args .header) in
+    let layout = askedLayout (now (args .magic)) (args .version) (args .min-program-version) (args .code) (args .host-size) (args .data-start) (args .data-size) in
+    let answer : write .write .result ≡ headerAnswer (args .code) layout (length salt) (length keys) (length header) = write .write .ensures .0 in (
+      c .refusal .ensures ∙ ap writtenRefusal answer,
+      write .write .ensures .1 ∙ ap (λ (written : Written). headerLeft written layout salt keys header) answer,
+    )
+
+pub write-header-spec : {M : Type 1} → statement M
+write-header-spec =
+    tie.close
+    (tie.spec
+    write-requires
+    refusal-requires
+    cast-result
+    same-length
+    returns)
