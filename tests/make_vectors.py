@@ -17,6 +17,7 @@ from vectors.openings import openings
 from vectors.records import program_files
 from vectors.sectors import sectors
 from vectors.views import views
+from vectors.writings import writings
 
 
 def differing(files):
@@ -28,7 +29,7 @@ def differing(files):
 
 
 def main():
-    files = {**program_files([*checks(), *openings(), *sectors(), *views()]), **maps()}
+    files = {**program_files([*checks(), *openings(), *writings(), *sectors(), *views()]), **maps()}
     if sys.argv[1:] == ['--check']:
         wrong = differing(files)
         for path in wrong:

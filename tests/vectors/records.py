@@ -7,7 +7,7 @@ them any bytes. Every number is eight bytes, big-endian.
 from typing import NamedTuple
 
 # What a record asks for, its body's first number.
-CHECKSUM, LOCATION, OPENING, MAP, PLAIN, PROTECTED, MADE_UP, READ, WRITE = range(9)
+CHECKSUM, LOCATION, OPENING, WRITE_HEADER, MAP, PLAIN, PROTECTED, MADE_UP, READ, WRITE = range(10)
 
 
 class Case(NamedTuple):

@@ -1,5 +1,8 @@
-"""The rules for opening and for the sector map (docs/RULES.md), written from their text."""
+"""The rules for opening, for writing headers and for the sector map (docs/RULES.md), written from their text."""
 import zlib
+
+# The byte order of min_program_version, as it is read and as it is written.
+MIN_PROGRAM_VERSION_ORDER = 'little'
 
 
 def number(h, offset, size):
@@ -8,6 +11,10 @@ def number(h, offset, size):
 
 def is_host_size(host_size):
     return host_size % 512 == 0 and 262_656 <= host_size <= 2**50
+
+
+def is_version(magic, version):
+    return version in {b'VERA': (2, 3, 4, 5), b'TRUE': (4, 5)}[magic]
 
 
 def is_data_area(is_hidden, host_size, data_start, data_size):
@@ -26,11 +33,11 @@ def is_header(h):
 def first_broken(h, code, host_size):
     """The number of the first line that a header breaks, None where it keeps them all."""
     is_vera, is_hidden = h[64:68] == b'VERA', code in (1, 3)
-    version, flags, sector_size = number(h, 68, 2), number(h, 124, 4), number(h, 128, 4)
+    flags, sector_size = number(h, 124, 4), number(h, 128, 4)
     hidden_size, data_size = number(h, 92, 8), number(h, 100, 8)
     data_start, encrypted_size = number(h, 108, 8), number(h, 116, 8)
     lines = [
-        (5, 2 <= version <= 5 if is_vera else 4 <= version <= 5),
+        (5, is_version(h[64:68], number(h, 68, 2))),
         (6, flags & 0xFFFF_FFFC == 0 and not (is_vera and any(h[76:92] + h[132:252]))),
         (7, flags & 3 == 0),
         (8, sector_size == 512),
@@ -60,13 +67,51 @@ def open_volume(host_size, codes, candidates):
                 'kind': code % 2,
                 'magic': int(h[64:68] == b'TRUE'),
                 'version': number(h, 68, 2),
-                'min_program_version': h[70] + 256 * h[71],
+                'min_program_version': int.from_bytes(h[70:72], MIN_PROGRAM_VERSION_ORDER),
                 'data_start': number(h, 108, 8),
                 'data_size': number(h, 100, 8),
                 'candidate': index,
             }
         refusals.append(broken)
     return refusals[0] if refusals else 4
+
+
+def write_header(asked, output):
+    """The answer to what is asked for, a refusal number or 'accepted', and the output as it is left."""
+    magic, code, host_size = asked['magic'], asked['code'], asked['host_size']
+    if (len(asked['salt']), len(asked['keys']), len(output)) != (64, 256, 512):
+        return 1, output
+    if magic not in (b'VERA', b'TRUE'):
+        return 19, output
+    if code > 3:
+        return 2, output
+    if not is_host_size(host_size):
+        return 3, output
+    if not is_version(magic, asked['version']):
+        return 5, output
+    if not is_data_area(code in (1, 3), host_size, asked['data_start'], asked['data_size']):
+        return 10, output
+    return 'accepted', new_header(asked)
+
+
+def new_header(asked):
+    """The header that is asked for, one field behind the other."""
+    data_size = asked['data_size'].to_bytes(8, 'big')
+    checked = b''.join([
+        asked['magic'],
+        asked['version'].to_bytes(2, 'big'),
+        asked['min_program_version'].to_bytes(2, MIN_PROGRAM_VERSION_ORDER),
+        zlib.crc32(asked['keys']).to_bytes(4, 'big'),
+        bytes(16),  # reserved
+        data_size if asked['code'] in (1, 3) else bytes(8),  # H
+        data_size,  # V
+        asked['data_start'].to_bytes(8, 'big'),  # O
+        data_size,  # E
+        bytes(4),  # flags
+        (512).to_bytes(4, 'big'),  # Z
+        bytes(120),  # reserved
+    ])
+    return asked['salt'] + checked + zlib.crc32(checked).to_bytes(4, 'big') + asked['keys']
 
 
 def locate(code, host_size):

@@ -6,7 +6,7 @@ use crate::input;
 use crate::print;
 use crate::views;
 
-const READ: u64 = 7;
+const READ: u64 = 8;
 
 const IMAGE_SIZE: usize = 2;
 

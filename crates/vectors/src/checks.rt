@@ -7,6 +7,6 @@ pub fn checksum(body: &[u8]) {
 }
 
 pub fn location(body: &[u8]) {
-    let code = (input::number(body, 2) % 256) as u8;
+    let code = input::low_byte(body, 2);
     print::numbered(locations::locate(code, input::number(body, 3)));
 }

@@ -47,6 +47,16 @@ pub fn number(numbers: &[u8], place: usize) -> u64 {
     numbers::read_big_endian(&numbers[start..end])
 }
 
+// The low byte of a number.
+pub fn low_byte(numbers: &[u8], place: usize) -> u8 {
+    (number(numbers, place) % 256) as u8
+}
+
+// What the low two bytes of a number spell.
+pub fn low_two_bytes(numbers: &[u8], place: usize) -> u16 {
+    (number(numbers, place) % 65_536) as u16
+}
+
 // What follows so many numbers.
 pub fn after(body: &[u8], count: usize) -> &[u8] {
     if body.len() / NUMBER_SIZE < count {

@@ -2,6 +2,7 @@
 // that they ask for, with the texts that they have for them. Assumes nothing.
 mod access;
 mod checks;
+mod headers;
 mod image;
 mod input;
 mod map;
@@ -16,13 +17,15 @@ const LOCATION: u64 = 1;
 
 const OPENING: u64 = 2;
 
-const MAP: u64 = 3;
+const WRITE_HEADER: u64 = 3;
 
-const PLAIN: u64 = 4;
+const MAP: u64 = 4;
 
-const PROTECTED: u64 = 5;
+const PLAIN: u64 = 5;
 
-const MADE_UP: u64 = 6;
+const PROTECTED: u64 = 6;
+
+const MADE_UP: u64 = 7;
 
 // The slot of the view that a record is for, the second number of its body.
 const SLOT: usize = 1;
@@ -78,6 +81,7 @@ fn run(image: &mut [u8; image::SPACE], view: &mut [u64; views::SIZE], body: &[u8
         CHECKSUM => checks::checksum(body),
         LOCATION => checks::location(body),
         OPENING => openings::run(body),
+        WRITE_HEADER => headers::run(body),
         MAP => map::run(body),
         PLAIN => views::make_plain(view, body),
         PROTECTED => views::make_protected(view, body),

@@ -8,7 +8,8 @@ pub fn run(body: &[u8]) {
     open(&rest[count..], &rest[..count], input::number(body, 2));
 }
 
-fn open(candidates: &[u8], codes: &[u8], host_size: u64) {
+// Prints what opening answers, and the keys.
+pub fn open(candidates: &[u8], codes: &[u8], host_size: u64) {
     let mut layout = [0u64; 8];
     let refusal = ondristela::ondristela_open(candidates, codes, host_size, &mut layout);
     print_layout(refusal, &layout);
