@@ -40,6 +40,7 @@ nothing_left() {
 
 volumes() { "$program" "$@"; }
 headers=(--outer outer.header --hidden hidden.header)
+prepare() { volumes prepare disk.img "$@"; }
 on_disk() { volumes "$1" disk.img "${headers[@]}" "${@:2}"; }
 random() { head -c "$1" /dev/urandom; }
 

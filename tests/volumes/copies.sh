@@ -22,3 +22,6 @@ same 'a hidden read' secrets secrets.copy
 expect 'a read of the protected range' 0 'read outer' on_disk read outer 1236 300 protected.copy
 same 'a read of the protected range' secrets protected.copy
 nothing_left 'a read'
+expect 'a read with a mask' 0 'read outer' eval '(umask 022 && on_disk read outer 0 1 masked.copy)'
+[ "$(stat -c %a masked.copy)" = 644 ] || failed 'a copy does not have the mode that the mask leaves'
+passed

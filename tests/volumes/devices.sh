@@ -12,6 +12,9 @@ if device=$(losetup --find --show disk.img 2>/dev/null); then
     same 'a read of a device' copy sector
     dd if=sector of=expected.img bs=512 seek=1285 conv=notrunc status=none
     same 'a device' disk.img expected.img
+    expect 'a header for a device' 0 "image: $device, 1.0 MiB" \
+        volumes prepare "$device" outer device.header --magic TRUE
+    same 'a header for a device' disk.img expected.img
     # Who looks at a device for a moment, as udev does, is waited for; who keeps it is not.
     flock --shared "$device" sleep 0.5 &
     expect 'a write beside a short look' 0 'wrote hidden' on_device write hidden 5 sector

@@ -45,6 +45,8 @@ plain 'a header that is refused' 1 'header: red\u{1b}[31m\n.img.header' volumes 
 plain 'a file that is missing' 2 'file: \u{1b}c: No such file' volumes show $'\ec' "${headers[@]}"
 plain 'a target' 0 'into \u{1b}.copy' on_disk read outer 0 1 $'\e.copy'
 plain 'a source' 0 'from \u{1b}.copy' on_disk write outer 0 $'\e.copy'
+plain 'a header' 0 'into \u{1b}.header' prepare outer $'\e.header' --magic TRUE
+plain 'keys' 1 'keys: \u{1b}.header, 512 bytes' prepare outer none --magic TRUE --keys $'\e.header'
 plain 'an unknown command' 2 '\u{1b}' volumes $'\ec'
 plain 'an unknown option' 2 '\u{1b}' volumes show $'--\ec'
 plain 'a number' 2 '\u{1b}' on_disk read outer $'\ec' 1 copy

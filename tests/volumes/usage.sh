@@ -19,7 +19,7 @@ expect 'options with an equals sign' 0 'disk.img, 1.0 MiB' volumes show disk.img
 manual=$root/man/volumes.1
 sed 's/\\-/-/g; s/\\f[BIR]//g' "$manual" >manual.text
 volumes help >help.text
-for word in $(grep -oE -- '--[a-z-]+' help.text | sort -u) show read write sample demo help; do
+for word in $(grep -oE -- '--[a-z-]+' help.text | sort -u) show read write prepare sample demo help; do
     grep -qwE -- "$word" manual.text || failed "the manual page does not have $word"
     passed
 done

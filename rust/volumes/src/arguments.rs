@@ -4,24 +4,11 @@ use std::ffi::{OsStr, OsString};
 use std::path::{Path, PathBuf};
 
 use crate::extent::Extent;
+use crate::numbers::number;
 use crate::options::{parted, Options};
+use crate::plan::{self, Host, Plan};
 use crate::problem::Problem;
-
-/// One of an image's two volumes.
-#[derive(Clone, Copy)]
-pub enum Volume {
-    Outer,
-    Hidden,
-}
-
-impl Volume {
-    pub fn name(self) -> &'static str {
-        match self {
-            Volume::Outer => "outer",
-            Volume::Hidden => "hidden",
-        }
-    }
-}
+use crate::volume::Volume;
 
 /// An image and the deciphered headers of its volumes, one or both.
 pub struct Files {
@@ -49,73 +36,93 @@ pub enum Command {
     Show { files: Files },
     Read { files: Files, volume: Volume, extent: Extent, target: PathBuf },
     Write { files: Files, volume: Volume, first: u64, source: PathBuf },
+    Prepare { plan: Plan },
 }
+
+const HEADERS: [&str; 3] = ["--outer", "--hidden", "--risk-wrong-disk"];
+
+// The commands, the words that each takes, and its options.
+const COMMANDS: [(&str, &str, &[&str]); 7] = [
+    ("show", "IMAGE and headers", &HEADERS),
+    ("read", "IMAGE VOLUME FIRST COUNT FILE and headers", &HEADERS),
+    ("write", "IMAGE VOLUME FIRST FILE and headers", &HEADERS),
+    ("prepare", "IMAGE VOLUME FILE, or VOLUME FILE and --host-size", &plan::OPTIONS),
+    ("sample", "DIR", &[]),
+    ("demo", "DIR", &[]),
+    ("help", "nothing", &[]),
+];
 
 /// The command that the arguments ask for. The program's own name is not among them.
 pub fn parse(arguments: &[OsString]) -> Result<Command, Problem> {
     let (options, words) = parted(arguments)?;
-    if options.help {
-        return Ok(Command::Help);
+    match words.split_first() {
+        _ if options.has("-h") || options.has("--help") => Ok(Command::Help),
+        _ if options.has("--version") => Ok(Command::Version),
+        Some((name, words)) => named(name, &options, words),
+        None => Err(Problem::usage("no command")),
     }
-    if options.version {
-        return Ok(Command::Version);
-    }
-    let Some((name, words)) = words.split_first() else {
-        return Err(Problem::usage("no command"));
+}
+
+fn named(name: &OsStr, options: &Options, words: &[&OsStr]) -> Result<Command, Problem> {
+    let Some(&(name, takes, its_options)) = COMMANDS.iter().find(|command| name == command.0) else {
+        return Err(Problem::usage(format!("{name:?} is no command")));
     };
-    match name.to_str() {
-        Some("show" | "read" | "write") => on_image(name, options, words),
-        Some("help" | "sample" | "demo") if options.for_image() => {
-            Err(Problem::usage(format!("{name:?} takes no headers")))
-        }
-        _ => on_none(name, words),
+    if let Some(other) = options.other_than(its_options) {
+        return Err(Problem::usage(format!("{name} takes no {other}")));
     }
+    command(name, options, words)?.ok_or_else(|| {
+        let given = words.len();
+        Problem::usage(format!("{name} takes {takes}; beside options, {given} words are given"))
+    })
 }
 
-fn on_none(name: &OsStr, words: &[&OsStr]) -> Result<Command, Problem> {
-    match (name.to_str(), words) {
-        (Some("help"), []) => Ok(Command::Help),
-        (Some("sample"), [folder]) => Ok(Command::Sample { folder: folder.into() }),
-        (Some("demo"), [folder]) => Ok(Command::Demo { folder: folder.into() }),
-        _ => Err(unknown(name, words)),
-    }
-}
-
-fn on_image(name: &OsStr, options: Options, words: &[&OsStr]) -> Result<Command, Problem> {
-    match (name.to_str(), words) {
-        (Some("show"), [image]) => Ok(Command::Show { files: files(image, options)? }),
-        (Some("read"), [image, volume, first, count, target]) => {
+// None, if there are more or fewer words than the command takes.
+fn command(name: &str, options: &Options, words: &[&OsStr]) -> Result<Option<Command>, Problem> {
+    Ok(Some(match (name, words) {
+        ("help", []) => Command::Help,
+        ("sample", [folder]) => Command::Sample { folder: folder.into() },
+        ("demo", [folder]) => Command::Demo { folder: folder.into() },
+        ("show", [image]) => Command::Show { files: files(image, options)? },
+        ("read", [image, volume, first, count, target]) => {
             let extent = Extent { first: number("FIRST", first)?, count: number("COUNT", count)? };
             let (files, volume) = files_with(image, options, volume)?;
-            Ok(Command::Read { files, volume, extent, target: target.into() })
+            Command::Read { files, volume, extent, target: target.into() }
         }
-        (Some("write"), [image, volume, first, source]) => {
+        ("write", [image, volume, first, source]) => {
             let first = number("FIRST", first)?;
             let (files, volume) = files_with(image, options, volume)?;
-            Ok(Command::Write { files, volume, first, source: source.into() })
+            Command::Write { files, volume, first, source: source.into() }
         }
-        _ => Err(unknown(name, words)),
-    }
+        ("prepare", words) => return prepare(options, words),
+        _ => return Ok(None),
+    }))
 }
 
-fn files(image: &OsStr, options: Options) -> Result<Files, Problem> {
-    if options.outer.is_none() && options.hidden.is_none() {
+// The host is an image, or a size in its place.
+fn prepare(options: &Options, words: &[&OsStr]) -> Result<Option<Command>, Problem> {
+    let (host, volume, target) = match (options.value("--host-size"), words) {
+        (None, [image, volume, target]) => (Host::Image(image.into()), volume, target),
+        (Some(size), [volume, target]) => (Host::Size(number("--host-size", size)?), volume, target),
+        _ => return Ok(None),
+    };
+    Ok(Some(Command::Prepare { plan: Plan::new(host, volume, target, options)? }))
+}
+
+fn files(image: &OsStr, options: &Options) -> Result<Files, Problem> {
+    if !options.has("--outer") && !options.has("--hidden") {
         return Err(Problem::usage("no header: name one by --outer or --hidden, or both"));
     }
     Ok(Files {
         image: image.into(),
-        outer_header: options.outer,
-        hidden_header: options.hidden,
-        risk_wrong_disk: options.risk_wrong_disk,
+        outer_header: options.path("--outer"),
+        hidden_header: options.path("--hidden"),
+        risk_wrong_disk: options.has("--risk-wrong-disk"),
     })
 }
 
 // The volume to work on is one whose header is given.
-fn files_with(image: &OsStr, options: Options, name: &OsStr) -> Result<(Files, Volume), Problem> {
-    let volume = [Volume::Outer, Volume::Hidden]
-        .into_iter()
-        .find(|volume| name == volume.name())
-        .ok_or_else(|| Problem::usage(format!("VOLUME is outer or hidden, not {name:?}")))?;
+fn files_with(image: &OsStr, options: &Options, name: &OsStr) -> Result<(Files, Volume), Problem> {
+    let volume = Volume::named(name)?;
     let files = files(image, options)?;
     match files.header(volume) {
         Some(_) => Ok((files, volume)),
@@ -127,32 +134,6 @@ fn files_with(image: &OsStr, options: Options, name: &OsStr) -> Result<(Files, V
 pub fn without_header(volume: Volume) -> Problem {
     let name = volume.name();
     Problem::usage(format!("the {name} volume needs its header: --{name} FILE"))
-}
-
-fn unknown(name: &OsStr, words: &[&OsStr]) -> Problem {
-    let takes = match name.to_str() {
-        Some("help") => "nothing",
-        Some("sample" | "demo") => "DIR",
-        Some("show") => "IMAGE and headers",
-        Some("read") => "IMAGE VOLUME FIRST COUNT FILE and headers",
-        Some("write") => "IMAGE VOLUME FIRST FILE and headers",
-        _ => return Problem::usage(format!("{name:?} is no command")),
-    };
-    let given = words.len();
-    Problem::usage(format!(
-        "{} takes {takes}; beside headers, {given} words are given",
-        name.to_string_lossy()
-    ))
-}
-
-// Digits alone: the program prints commas in large numbers, but one in a command may be a slip.
-fn number(what: &str, text: &OsStr) -> Result<u64, Problem> {
-    text.to_str()
-        .filter(|text| text.bytes().all(|byte| byte.is_ascii_digit()))
-        .and_then(|digits| digits.parse().ok())
-        .ok_or_else(|| {
-            Problem::usage(format!("{what} is a whole number below 2^64, in digits, not {text:?}"))
-        })
 }
 
 #[cfg(test)]
@@ -188,8 +169,9 @@ mod tests {
             ("show disk --inner a", "\"--inner\" is no option"),
             ("show disk --risk-wrong-disk=yes --outer a", "is no option"),
             ("list disk", "\"list\" is no command"),
-            ("show disk more --outer a", "show takes IMAGE and headers; beside headers, 2 words"),
-            ("sample folder --outer a", "takes no headers"),
+            ("show disk more --outer a", "show takes IMAGE and headers; beside options, 2 words"),
+            ("sample folder --outer a", "sample takes no --outer"),
+            ("show disk --outer a --magic TRUE", "show takes no --magic"),
             ("read disk inner 0 1 copy --outer a", "VOLUME is outer or hidden"),
             ("read disk hidden 0 1 copy --outer a", "the hidden volume needs its header"),
             ("read disk outer 0 -1 copy --outer a", "COUNT is a whole number"),

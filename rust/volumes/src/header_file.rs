@@ -1,17 +1,15 @@
 //! What a header file tells of an image.
 
-use std::fs::File;
-use std::io::{self, Read};
 use std::path::Path;
 
-use ondristela::{open, Kind, Layout, Location, Refusal, HEADER_SIZE, MAX_CANDIDATES};
+use ondristela::{open, Kind, Layout, Location, Refusal, SALT_SIZE};
 
 use crate::image::Image;
 use crate::names::shown;
 use crate::notes::note;
 use crate::problem::Problem;
-use crate::salts::{self, SALT_SIZE};
-use crate::sizes::size;
+use crate::salts;
+use crate::small_file;
 
 /// A volume's layout, and where the image has its header; nowhere, if the risk was taken.
 pub struct Header {
@@ -24,10 +22,10 @@ impl Header {
     /// the main header's code too: codes 0 and 2 make a standard volume by the same rules, codes 1 and 3 a hidden
     /// one.
     pub fn open(path: &Path, kind: Kind, image: &Image, risk_wrong_disk: bool) -> Result<Header, Problem> {
-        let bytes = read_header(path).map_err(Problem::file(path))?;
+        let bytes = small_file::read(path)?;
         let code = if kind == Kind::Standard { Location::Standard.code() } else { Location::Hidden.code() };
         let layout = open(&bytes, &[code], image.size()?)
-            .map_err(|refusal| refused(refusal, path, bytes.len() as u64, image))?;
+            .map_err(|refusal| refused(refusal, path, bytes.len(), image))?;
         let location = salts::location_of(&bytes[..SALT_SIZE], kind, image)?;
         match location {
             None if !risk_wrong_disk => return Err(of_another_disk(path, image)),
@@ -38,26 +36,12 @@ impl Header {
     }
 }
 
-const MAX_SIZE: usize = MAX_CANDIDATES * HEADER_SIZE;
-
-/// A header file's bytes, as many as there are: the library judges how many there may be. No more are read
-/// than tell it that there are too many, so a disk named by mistake is not loaded.
-pub fn read_header(path: &Path) -> io::Result<Vec<u8>> {
-    let mut bytes = Vec::new();
-    File::open(path)?.take(MAX_SIZE as u64 + 1).read_to_end(&mut bytes)?;
-    Ok(bytes)
-}
-
-fn refused(refusal: Refusal, path: &Path, bytes: u64, image: &Image) -> Problem {
+fn refused(refusal: Refusal, path: &Path, bytes: usize, image: &Image) -> Problem {
     let problem = Problem::refused(refusal);
-    let name = shown(path);
     match refusal {
-        Refusal::Lengths if bytes > MAX_SIZE as u64 => {
-            problem.fact(format!("header: {name}, more than {}", size(MAX_SIZE as u64)))
-        }
-        Refusal::Lengths => problem.fact(format!("header: {name}, {}", size(bytes))),
+        Refusal::Lengths => problem.fact(small_file::fact("header", path, bytes)),
         Refusal::HostSize => problem.fact(image.fact()),
-        _ => problem.fact(format!("header: {name}")).fact(image.fact()),
+        _ => problem.fact(format!("header: {}", shown(path))).fact(image.fact()),
     }
 }
 

@@ -1,12 +1,13 @@
 //! The library's refusals of an extent, with the facts that tell what to change.
 
-use ondristela::{Kind, Refusal, View, SECTOR_SIZE};
+use ondristela::{Refusal, View, SECTOR_SIZE};
 
 use crate::extent::Extent;
 use crate::image::Image;
 use crate::problem::Problem;
 use crate::sizes::size;
 use crate::thousands::thousands;
+use crate::volume::Volume;
 
 /// Whether a volume has all sectors of an extent, however many calls it takes: a read of no sector at its end
 /// is refused 16 exactly where it reaches past the volume's end.
@@ -59,10 +60,7 @@ pub fn refused(refusal: Refusal, view: &View, image: &Image, extent: Extent) -> 
 
 /// A view's volume, as the command line has it.
 pub fn volume_name(view: &View) -> &'static str {
-    match view.layout.kind {
-        Kind::Standard => "outer",
-        Kind::Hidden => "hidden",
-    }
+    Volume::of(view.layout.kind).name()
 }
 
 /// An extent's first and last sector, for a message.

@@ -1,8 +1,8 @@
-//! Shows where VeraCrypt and TrueCrypt volumes lie on a disk, and copies sectors in and out of them.
+//! Shows where VeraCrypt and TrueCrypt volumes lie on a disk, copies sectors in and out of them, and makes headers.
 //!
 //! It works on image files and on block devices. Headers come deciphered, each in a file of its own, and must be
-//! the image's own; sectors are copied as they stand, enciphered. Where the library says a sector lies, and
-//! nowhere else, it is read and written. `volumes help` lists the commands.
+//! the image's own, but for new ones; sectors are copied as they stand, enciphered. Where the library says a
+//! sector lies, and nowhere else, it is read and written. `volumes help` lists the commands.
 
 #![deny(unsafe_code)]
 
@@ -10,30 +10,39 @@ mod advice;
 mod arguments;
 mod demo;
 mod extent;
-mod header;
+mod faults;
+mod formats;
 mod header_file;
 mod image;
 mod judging;
+mod material;
 mod names;
 mod new_file;
 mod noise;
 mod notes;
+mod numbers;
 mod options;
 mod picture;
+mod plan;
+mod preparing;
 mod problem;
 mod progress;
+mod random;
 mod reading;
 mod regions;
 mod salts;
 mod sample;
+mod sample_headers;
 mod show;
 mod sizes;
+mod small_file;
 mod source;
 #[allow(unsafe_code)]
 mod system;
 mod target;
 mod thousands;
 mod usage;
+mod volume;
 mod volumes;
 mod wrapping;
 mod writing;
@@ -70,6 +79,7 @@ fn run(command: Command) -> Result<String, Problem> {
         Command::Show { files } => show_files(&files),
         Command::Read { files, volume, extent, target } => reading::read(&files, volume, extent, &target),
         Command::Write { files, volume, first, source } => writing::write(&files, volume, first, &source),
+        Command::Prepare { plan } => preparing::prepare(&plan),
     }
 }
 

@@ -2,14 +2,24 @@
 
 use std::path::Path;
 
-/// Standard input or standard output, where a file's name is asked for.
-pub const STREAM: &str = "-";
+/// Whether a file's name stands for standard input or standard output.
+pub fn is_stream(path: &Path) -> bool {
+    path == Path::new("-")
+}
 
 /// A path as text. Control characters, bytes that are no text and backslashes are shown escaped, so that a
 /// name can do nothing to a terminal.
 pub fn shown(path: &Path) -> String {
     let quoted = format!("{path:?}");
     quoted[1..quoted.len() - 1].replace("\\\"", "\"")
+}
+
+/// Where a command puts its bytes, for a message.
+pub fn destination(path: &Path) -> String {
+    match is_stream(path) {
+        true => "to standard output".to_string(),
+        false => format!("into {}", shown(path)),
+    }
 }
 
 #[cfg(test)]

@@ -6,33 +6,61 @@ use std::path::PathBuf;
 
 use crate::problem::Problem;
 
-/// What the options say.
-#[derive(Default)]
-pub struct Options {
-    pub help: bool,
-    pub version: bool,
-    pub outer: Option<PathBuf>,
-    pub hidden: Option<PathBuf>,
-    pub risk_wrong_disk: bool,
-}
+/// Every option, and what its value is, if it takes one.
+const NAMES: [(&str, Option<&str>); 15] = [
+    ("-h", None),
+    ("--help", None),
+    ("--version", None),
+    ("--outer", Some("a file, a deciphered header")),
+    ("--hidden", Some("a file, a deciphered header")),
+    ("--risk-wrong-disk", None),
+    ("--host-size", Some("a number of bytes")),
+    ("--backup", None),
+    ("--magic", Some("VERA or TRUE")),
+    ("--header-version", Some("a number")),
+    ("--min-program-version", Some("a number")),
+    ("--data-start", Some("a number of bytes")),
+    ("--data-size", Some("a number of bytes")),
+    ("--salt", Some("a file of 64 bytes")),
+    ("--keys", Some("a file of 256 bytes")),
+];
 
-impl Options {
-    /// Whether there is one that only a command on an image takes.
-    pub fn for_image(&self) -> bool {
-        self.outer.is_some() || self.hidden.is_some() || self.risk_wrong_disk
+/// The options that are given, each with its value, if it takes one.
+pub struct Options<'a>(Vec<(&'static str, Option<&'a OsStr>)>);
+
+impl<'a> Options<'a> {
+    pub fn has(&self, name: &str) -> bool {
+        self.0.iter().any(|given| given.0 == name)
+    }
+
+    pub fn value(&self, name: &str) -> Option<&'a OsStr> {
+        self.0.iter().find(|given| given.0 == name).and_then(|given| given.1)
+    }
+
+    pub fn path(&self, name: &str) -> Option<PathBuf> {
+        self.value(name).map(PathBuf::from)
+    }
+
+    /// The first that is none of these.
+    pub fn other_than(&self, names: &[&str]) -> Option<&'static str> {
+        self.0.iter().map(|given| given.0).find(|name| !names.contains(name))
     }
 }
 
 /// The options, wherever they stand, and the other words in their order. A word `--` ends the options.
-pub fn parted(arguments: &[OsString]) -> Result<(Options, Vec<&OsStr>), Problem> {
-    let mut options = Options::default();
+pub fn parted(arguments: &[OsString]) -> Result<(Options<'_>, Vec<&OsStr>), Problem> {
+    let mut options = Options(Vec::new());
     let mut words = Vec::new();
     let mut rest = arguments.iter().map(OsString::as_os_str);
     while let Some(word) = rest.next() {
         if word == "--" {
             words.extend(rest.by_ref());
         } else if word == "-h" || word.as_bytes().starts_with(b"--") {
-            take(&mut options, word, &mut rest)?;
+            let (name, value) = option(word, &mut rest)?;
+            if options.has(name) && value.is_some() {
+                return Err(Problem::usage(format!("{name} is given twice")));
+            }
+            options.0.push((name, value));
         } else {
             words.push(word);
         }
@@ -40,32 +68,20 @@ pub fn parted(arguments: &[OsString]) -> Result<(Options, Vec<&OsStr>), Problem>
     Ok((options, words))
 }
 
-// A file is the next word, or stands in the option's own word behind an equals sign.
-fn take<'a>(
-    options: &mut Options,
+// A value is the next word, or stands in the option's own word behind an equals sign.
+fn option<'a>(
     word: &'a OsStr,
     rest: &mut impl Iterator<Item = &'a OsStr>,
-) -> Result<(), Problem> {
+) -> Result<(&'static str, Option<&'a OsStr>), Problem> {
     let mut parts = word.as_bytes().splitn(2, |byte| *byte == b'=');
     let name = parts.next().unwrap_or_default();
     let value = parts.next().map(OsStr::from_bytes);
-    match (name, value) {
-        (b"-h" | b"--help", None) => options.help = true,
-        (b"--version", None) => options.version = true,
-        (b"--risk-wrong-disk", None) => options.risk_wrong_disk = true,
-        (b"--outer", value) => set(&mut options.outer, "--outer", value.or_else(|| rest.next()))?,
-        (b"--hidden", value) => set(&mut options.hidden, "--hidden", value.or_else(|| rest.next()))?,
-        _ => return Err(Problem::usage(format!("{word:?} is no option"))),
-    }
-    Ok(())
-}
-
-fn set(header: &mut Option<PathBuf>, name: &str, value: Option<&OsStr>) -> Result<(), Problem> {
-    let Some(path) = value else {
-        return Err(Problem::usage(format!("{name} needs a file, a deciphered header")));
-    };
-    match header.replace(path.into()) {
-        None => Ok(()),
-        Some(_) => Err(Problem::usage(format!("{name} is given twice"))),
+    match (NAMES.iter().find(|known| known.0.as_bytes() == name), value) {
+        (Some((name, Some(what))), value) => match value.or_else(|| rest.next()) {
+            Some(value) => Ok((name, Some(value))),
+            None => Err(Problem::usage(format!("{name} needs {what}"))),
+        },
+        (Some((name, None)), None) => Ok((name, None)),
+        _ => Err(Problem::usage(format!("{word:?} is no option"))),
     }
 }

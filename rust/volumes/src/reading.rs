@@ -4,16 +4,18 @@ use std::path::Path;
 
 use ondristela::View;
 
-use crate::arguments::{Files, Volume};
+use crate::arguments::Files;
 use crate::extent::Extent;
 use crate::image::Image;
 use crate::judging::{judge_read, refused, sectors};
-use crate::names::{shown, STREAM};
-use crate::notes::note;
+use crate::names::destination;
+use crate::new_file::SHARED;
+use crate::notes::reported;
 use crate::problem::Problem;
 use crate::progress::Progress;
 use crate::system;
 use crate::target::Target;
+use crate::volume::Volume;
 use crate::volumes::Volumes;
 
 /// Copies an extent into a new file, or to standard output. A read that is refused makes no file.
@@ -21,18 +23,8 @@ pub fn read(files: &Files, volume: Volume, extent: Extent, path: &Path) -> Resul
     let image = Image::to_read(&files.image)?;
     let view = Volumes::open(files, &image)?.into_view(volume)?;
     judge_read(&view, &image, extent)?;
-    let to_file = path != Path::new(STREAM);
-    if to_file {
-        // A signal would leave half a file; a pipe has an end by itself.
-        system::catch_signals();
-    }
-    copy(&view, &image, extent, Target::open(path)?)?;
-    let report = format!("read {} {extent}, ", volume.name());
-    if to_file {
-        return Ok(format!("{report}into {}\n", shown(path)));
-    }
-    note(format_args!("{report}to standard output"));
-    Ok(String::new())
+    copy(&view, &image, extent, Target::open(path, SHARED)?)?;
+    Ok(reported(format!("read {} {extent}, {}\n", volume.name(), destination(path)), path))
 }
 
 fn copy(view: &View, image: &Image, extent: Extent, mut target: Target) -> Result<(), Problem> {

@@ -1,11 +1,19 @@
 //! What the parts of a disk with volumes are for.
 
+use std::ops::Range;
+
 use ondristela::{Layout, Location, Refusal};
 
 use crate::thousands::thousands;
 
 /// Each header lies at the start of an area of so many bytes.
 pub const HEADER_AREA_SIZE: u64 = 65_536;
+
+/// The bytes between the two header areas at a disk's start and the two at its end: the room for data. The library
+/// judges what lies there; this is for what a command leaves out, and for messages.
+pub fn room(host_size: u64) -> Range<u64> {
+    2 * HEADER_AREA_SIZE..host_size.saturating_sub(2 * HEADER_AREA_SIZE)
+}
 
 /// The use of a region.
 #[derive(Clone, Copy, PartialEq)]

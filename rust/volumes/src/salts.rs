@@ -1,12 +1,9 @@
 //! Whether a header is of this image, by its salt: a host has it in the clear, where the header lies.
 
-use ondristela::{Kind, Location};
+use ondristela::{Kind, Location, SALT_SIZE};
 
 use crate::image::Image;
 use crate::problem::Problem;
-
-/// A salt's bytes, the first of a header.
-pub const SALT_SIZE: usize = 64;
 
 /// At which of its kind's two locations the image has this salt, if at any. The main header and the backup have
 /// salts of their own, so this also tells which of the two was deciphered. A salt of zeros was blanked, and is on

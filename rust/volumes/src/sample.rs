@@ -8,11 +8,11 @@ use std::path::Path;
 use ondristela::{Location, Refusal};
 
 use crate::arguments::Files;
-use crate::header::{header, HEADERS};
-use crate::header_file::read_header;
 use crate::noise::noise;
 use crate::problem::Problem;
 use crate::regions::HEADER_AREA_SIZE;
+use crate::sample_headers::{self, header};
+use crate::small_file;
 
 const HOST_SIZE: u64 = 1_048_576;
 
@@ -22,9 +22,10 @@ const NAMES: [&str; 3] = ["disk.img", "outer.header", "hidden.header"];
 /// Makes a folder with the sample. No file is overwritten but those of an earlier sample.
 pub fn make(folder: &Path) -> Result<Files, Problem> {
     let [image, outer_header, hidden_header] = NAMES.map(|name| folder.join(name));
-    let [outer, hidden] = HEADERS.map(header);
+    let outer = header(sample_headers::OUTER, HOST_SIZE)?;
+    let hidden = header(sample_headers::HIDDEN, HOST_SIZE)?;
     let areas = header_areas()?;
-    let again = read_header(&outer_header).is_ok_and(|earlier| earlier == outer);
+    let again = small_file::read(&outer_header).is_ok_and(|earlier| earlier == outer);
     fs::create_dir_all(folder).map_err(Problem::file(folder))?;
     make_file(&image, again, |file| fill_image(file, &areas))?;
     make_file(&outer_header, again, |file| file.write_all(&outer))?;

@@ -2,8 +2,9 @@
 
 use std::path::Path;
 
-use ondristela::{Kind, Layout, Location, Magic, Refusal};
+use ondristela::{Kind, Layout, Location, Refusal};
 
+use crate::formats::magic_name;
 use crate::names::shown;
 use crate::picture::picture;
 use crate::problem::Problem;
@@ -59,7 +60,7 @@ fn facts(name: &str, opened: &Opened) -> Result<[String; 11], Refusal> {
         kind_name(layout.kind).to_string(),
         magic_name(layout.magic).to_string(),
         layout.version.to_string(),
-        header_name(opened.header).to_string(),
+        opened.header.map_or("not on it", header_name).to_string(),
         short(layout.data_size),
         thousands(layout.data_start),
         thousands(layout.data_start + layout.data_size - 1),
@@ -76,17 +77,10 @@ fn kind_name(kind: Kind) -> &'static str {
     }
 }
 
-fn magic_name(magic: Magic) -> &'static str {
-    match magic {
-        Magic::Vera => "VERA",
-        Magic::True => "TRUE",
-    }
-}
-
-fn header_name(location: Option<Location>) -> &'static str {
+/// Which of its volume's two headers lies there.
+pub fn header_name(location: Location) -> &'static str {
     match location {
-        Some(Location::Standard | Location::Hidden) => "main",
-        Some(Location::StandardBackup | Location::HiddenBackup) => "backup",
-        None => "not on it",
+        Location::Standard | Location::Hidden => "main",
+        Location::StandardBackup | Location::HiddenBackup => "backup",
     }
 }

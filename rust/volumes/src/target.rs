@@ -1,13 +1,14 @@
-//! Where a read puts its bytes: a new file, which has its name only once it is whole, or standard output.
+//! Where a command puts its bytes: a new file, which has its name only once it is whole, or standard output.
 
 use std::fs::{self, File};
 use std::io::{self, IsTerminal, Write};
 use std::os::fd::AsFd;
 use std::path::{Path, PathBuf};
 
-use crate::names::STREAM;
+use crate::names::is_stream;
 use crate::new_file::create_in;
 use crate::problem::Problem;
+use crate::system;
 
 pub enum Target {
     Output(File),
@@ -15,12 +16,15 @@ pub enum Target {
 }
 
 impl Target {
-    /// Opens the target. A file that is there already is left alone: it might be the image.
-    pub fn open(path: &Path) -> Result<Target, Problem> {
-        if path == Path::new(STREAM) {
+    /// Opens the target, a new file with this mode. A file that is there already is left alone: it might be the
+    /// image.
+    pub fn open(path: &Path, mode: u32) -> Result<Target, Problem> {
+        if is_stream(path) {
             return output().map(Target::Output).map_err(Problem::file(path));
         }
-        let partial = absent(path).and_then(|()| Partial::beside(path)).map_err(Problem::file(path))?;
+        // A signal would leave half a file; a pipe has an end by itself.
+        system::catch_signals();
+        let partial = absent(path).and_then(|()| Partial::beside(path, mode)).map_err(Problem::file(path))?;
         Ok(Target::NewFile { path: path.to_owned(), partial })
     }
 
@@ -42,11 +46,11 @@ impl Target {
     }
 }
 
-// Not through `io::stdout`, which would look for line ends in the sectors.
+// Not through `io::stdout`, which would look for line ends in the bytes.
 fn output() -> io::Result<File> {
     let output = io::stdout();
     if output.is_terminal() {
-        let ground = "standard output is a terminal: name a file, or let a program take the sectors";
+        let ground = "standard output is a terminal: name a file, or let a program take the bytes";
         return Err(io::Error::new(io::ErrorKind::InvalidInput, ground));
     }
     output.as_fd().try_clone_to_owned().map(File::from)
@@ -68,8 +72,8 @@ pub struct Partial {
 }
 
 impl Partial {
-    fn beside(target: &Path) -> io::Result<Partial> {
-        let (path, file) = create_in(folder_of(target))?;
+    fn beside(target: &Path, mode: u32) -> io::Result<Partial> {
+        let (path, file) = create_in(folder_of(target), mode)?;
         Ok(Partial { path, file })
     }
 

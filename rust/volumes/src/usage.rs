@@ -9,6 +9,9 @@ volumes read IMAGE HEADERS VOLUME FIRST COUNT FILE
     copies COUNT sectors, from sector FIRST on, into a new FILE
 volumes write IMAGE HEADERS VOLUME FIRST FILE
     copies FILE, whole sectors of 512 bytes, from sector FIRST on
+volumes prepare IMAGE VOLUME FILE --magic MAGIC
+    makes a new header for a volume on IMAGE, in a new FILE, deciphered;
+    IMAGE is only asked for its size
 volumes sample DIR
     makes a sample in DIR: disk.img, outer.header, hidden.header
     (an earlier sample there is made anew, other files are left alone)
@@ -33,6 +36,24 @@ FILE - is standard output or standard input. Standard input is copied to a
 nameless file in $TMPDIR (or /tmp) first, since all of a write is judged
 before its first byte is written.
 Sectors are copied as they stand, enciphered.
+
+A header is prepared with a new random salt and new random keys, and an
+outer volume with all the room that IMAGE has, where nothing else is said:
+    --magic MAGIC        VERA or TRUE
+    --host-size BYTES    a size in the place of IMAGE
+    --data-start BYTES   the first byte of the data area in IMAGE, and its
+    --data-size BYTES    size; a hidden volume needs both
+    --backup             the volume's backup; it has a salt of its own, and
+                         the keys of the main header, so it needs --keys
+    --salt FILE          64 bytes, instead of new ones
+    --keys FILE          256 bytes, instead of new ones; those of a header
+                         are its last 256 bytes
+    --header-version N   for VERA 2 to 5, for TRUE 4 or 5; else 5
+    --min-program-version N
+                         else the one that headers of VeraCrypt and
+                         TrueCrypt have
+FILE has the keys in the clear, and only its owner can read it. It has to be
+enciphered before it goes on a disk, which this program does not do.
 
 Exit status:
     0  done

@@ -4,11 +4,12 @@ use std::path::Path;
 
 use ondristela::{Kind, Layout, Location, Refusal, View};
 
-use crate::arguments::{without_header, Files, Volume};
+use crate::arguments::{without_header, Files};
 use crate::header_file::Header;
 use crate::image::Image;
 use crate::problem::Problem;
 use crate::thousands::thousands;
+use crate::volume::Volume;
 
 /// A volume, and where the image has its header; nowhere, if the risk was taken.
 pub struct Opened {

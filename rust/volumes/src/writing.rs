@@ -4,16 +4,17 @@ use std::path::Path;
 
 use ondristela::{Kind, View};
 
-use crate::arguments::{Files, Volume};
+use crate::arguments::Files;
 use crate::extent::Extent;
 use crate::image::Image;
 use crate::judging::{judge_end, judge_write, refused, sectors};
-use crate::names::STREAM;
+use crate::names::is_stream;
 use crate::notes::note;
 use crate::problem::Problem;
 use crate::progress::Progress;
 use crate::source::Source;
 use crate::system;
+use crate::volume::Volume;
 use crate::volumes::Volumes;
 
 /// Copies a whole file, or standard input, into a volume, from sector `first` on. A write that is refused
@@ -21,7 +22,7 @@ use crate::volumes::Volumes;
 pub fn write(files: &Files, volume: Volume, first: u64, path: &Path) -> Result<String, Problem> {
     let image = Image::to_write(&files.image)?;
     let mut view = Volumes::open(files, &image)?.into_view(volume)?;
-    let source = match path == Path::new(STREAM) {
+    let source = match is_stream(path) {
         true => Source::spool(first, |extent| judge_end(&mut view, &image, extent))?,
         false => Source::open(path, first)?,
     };
