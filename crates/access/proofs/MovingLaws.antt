@@ -3,7 +3,7 @@
 use Prim.Native.Nat.{ℕ, _+_, _-_, _*_, _≤_}
 use native.Mathlib.Omega.{arith}
 use native.Mathlib.Nat.{add-sub-cancel-left}
-use mathlib.Core.{Path.{_≡_, refl, sym, ap, _∙_}, List.{List, _++_, append-nil}}
+use mathlib.Core.{Path.{_≡_, ap, _∙_}, List.{List, _++_, append-nil}}
 use lib.{ListN.{length, take, drop, drop-of-length-le, length-take, length-drop}, Seq.length-take-le}
 use borrow.Author.Tests.{le-leb}
 use borrow.Rule.Slice.PartMut.{putMid}

@@ -3,8 +3,7 @@
 use Prim.Native.Nat.{ℕ, zero, suc, _+_, _-_, _≤_, _<_, min}
 use native.Mathlib.Nat.{zero-min, min-zero, suc-min-suc, add-sub-cancel-left}
 use native.Mathlib.Numerals.{add-one}
-use native.Mathlib.Omega.{arith}
-use mathlib.Core.{Path.{_≡_, refl, sym, ap, ap₂, _∙_}, Bool.{Bool, true, false, _&&_, and-false, true≢false}, List.{List, [], _∷_}}
+use mathlib.Core.{Path.{_≡_, refl, sym, ap, ap₂}, Bool.{Bool, true, false, _&&_, and-false, true≢false}, List.{List, [], _∷_}}
 use lib.{Dec.eqb, ListN.{length, getD, take, drop, replicate, length-drop, drop-of-length-le}, Seq.drop-cons}
 use borrow.Author.Tests.{eqb-true}
 use Rattle.fields.specs.Bytes.{sameBytes, allZero}

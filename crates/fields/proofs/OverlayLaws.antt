@@ -13,14 +13,16 @@ pub overlay-nil : (at : ℕ) (bytes : List ℕ) → overlay at [] bytes ≡ byte
 unfolding overlay
 overlay-nil at bytes = rw (append-nil, add-zero) (take-append-drop at bytes)
 
-pub length-overlay : (at : ℕ) (content bytes : List ℕ) → at + length content ≤ length bytes → length (overlay at content bytes) ≡ length bytes
+pub length-overlay : (at : ℕ) (content bytes : List ℕ) → at + length content ≤ length bytes
+    → length (overlay at content bytes) ≡ length bytes
 unfolding overlay
 length-overlay at content bytes fits = simp (length-append, length-take, length-drop) (omega arith)
 
 drop-past : (front rest : List ℕ) (n m : ℕ) → length front ≡ n → drop (n + m) (front ++ rest) ≡ drop m rest
 drop-past front rest n m size = rw (← size) (drop-append-add front rest m)
 
-pub overlay-append : (at : ℕ) (a b bytes : List ℕ) → at + length a ≤ length bytes → overlay (at + length a) b (overlay at a bytes) ≡ overlay at (a ++ b) bytes
+pub overlay-append : (at : ℕ) (a b bytes : List ℕ) → at + length a ≤ length bytes
+    → overlay (at + length a) b (overlay at a bytes) ≡ overlay at (a ++ b) bytes
 unfolding overlay
 overlay-append at a b bytes fits =
     let n = at + length a in
@@ -46,16 +48,19 @@ overlay-rest at content bytes fits =
     let all : length rest ≤ length bytes - at = simp length-drop (omega arith) in
     simp (take-all (length bytes - at) rest all, drop-of-length-le rest all, append-nil, drop-drop, append-assoc)
 
--- just as many as there are
-pub overlay-part : (at size : ℕ) (content bytes : List ℕ) → length content ≡ size → putMid at (at + size - at) bytes content ≡ overlay at content bytes
+-- just so many, by what fills any count of bytes
+pub overlay-filled : (at size : ℕ) (fill : ℕ → List ℕ) (bytes : List ℕ) → ((n : ℕ) → length (fill n) ≡ n) → at + size ≤ length bytes
+    → putMid at (at + size - at) bytes (fill (length (take (at + size - at) (drop at bytes)))) ≡ overlay at (fill size) bytes
 unfolding overlay
-overlay-part at size content bytes fits =
-    let whole : at + size - at ≡ size = omega arith in
-    rw (whole, ← fits) (simp (drop-drop, append-assoc))
+overlay-filled at size fill bytes whole fits =
+    let cut : at + size - at ≡ size = omega arith in
+    let room : length (take size (drop at bytes)) ≡ size = simp (length-take, length-drop) (omega arith) in
+    rw (cut, room, whole size) (simp (drop-drop, append-assoc))
 
 -- ---- each part afterwards
 
-pub part-overlay : (at size : ℕ) (content bytes : List ℕ) → length content ≡ size → at + size ≤ length bytes → part at size (overlay at content bytes) ≡ content
+pub part-overlay : (at size : ℕ) (content bytes : List ℕ) → length content ≡ size → at + size ≤ length bytes
+    → part at size (overlay at content bytes) ≡ content
 unfolding overlay
 part-overlay at size content bytes whole fits =
     let front : length (take at bytes) ≡ at = simp length-take (omega arith) in
@@ -89,4 +94,7 @@ part-behind at size offset content bytes starts fits =
     let front : length (take at bytes ++ content) ≡ end = simp (length-append, length-take) (omega arith) in
     let past : end + (offset - end) ≡ offset = omega arith in
     ap (λ (n : ℕ). take size (drop n (take at bytes ++ content ++ drop end bytes))) (sym past)
-    ∙ ap (take size) (drop-past (take at bytes ++ content) (drop end bytes) end (offset - end) front ∙ drop-drop (offset - end) end bytes ∙ ap (λ (n : ℕ). drop n bytes) past)
+    ∙ ap (take size)
+    (drop-past (take at bytes ++ content) (drop end bytes) end (offset - end) front
+    ∙ drop-drop (offset - end) end bytes
+    ∙ ap (λ (n : ℕ). drop n bytes) past)

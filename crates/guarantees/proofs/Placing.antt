@@ -1,8 +1,8 @@
 -- Where reads and writes find their bytes, and that a caller which moves them itself reads and writes. Assumes nothing.
-use Prim.Native.Nat.{ℕ, suc, _+_, _*_}
+use Prim.Native.Nat.{ℕ, suc, _*_}
 use native.Mathlib.Omega.{arith}
-use mathlib.Core.{Path.{_≡_, refl, sym, ap, _∙_}, Bool.cond, List.{List, [], _∷_}}
-use lib.{Dec.eqb, ListN.{length, getD, take, drop}}
+use mathlib.Core.{Path.{_≡_, refl, sym, ap, _∙_}, List.List}
+use lib.{Dec.eqb, ListN.{length, take, drop}}
 use borrow.Author.Tests.{ne-eqb}
 use Rattle.answers.specs.{Answers.{isAccepted, answerRefusal}, declared.Answer.{Answer, the-variants.{Accepted, Refused}}}
 use Rattle.layout.specs.declared.Layout.{Layout}
@@ -14,7 +14,7 @@ use Rattle.access.specs.Moving.{filledBy, writtenBy}
 use Rattle.access.proofs.MovingLaws.{filled-accepted, written-accepted}
 use Rattle.view.specs.{Outcomes.{viewRead, viewWrite, after, readPlaced, writePlaced}, declared.View.View}
 use Rattle.boundary_numbers.specs.BoundaryNumbers.{viewFrom, numberedLeft}
-use Rattle.guarantees.specs.Placing.{storedAt, taken, stored, PlacesExtents, PlacesNumbers}
+use Rattle.guarantees.specs.Placing.{taken, stored, PlacesExtents, PlacesNumbers}
 use Rattle.guarantees.proofs.TableLaws.{lock-left}
 
 pub places-extents : (view : View) (image : List ℕ) (first count : ℕ) (buffer : List ℕ) → PlacesExtents view image first count buffer

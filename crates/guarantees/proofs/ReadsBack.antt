@@ -1,7 +1,7 @@
 -- What is written is read back: it opens with the same fields, its keys and its salt are those that were given, and its unused bytes are zero.
 -- Assumes nothing.
 use Prim.Native.Nat.{ℕ}
-use mathlib.Core.{Path.{_≡_, refl, sym, ap, subst, _∙_}, Bool.true, List.{List, [], _∷_}}
+use mathlib.Core.{Path.{_≡_, refl, ap, subst, _∙_}, Bool.true, List.{List, [], _∷_}}
 use lib.ListN.{length, replicate}
 use borrow.Author.Tests.{leb-true}
 use Rattle.fields.specs.Bytes.{part, sameBytes, allZero}
@@ -45,7 +45,8 @@ module _ (r : Request) (before : List ℕ) (done : answerTo r before ≡ Done) w
   unfolding Passes
   told magic e = asked-is r (holds-true (code-passes r (length before)) (passed .knownCode)) ∙ ap (λ (m : ℕ). layoutFor m r) e
 
-  opens-as : (magic : ℕ) → magicNumber (r .magic) ≡ magic → Passable r → opened (leftBy r before) (r .code ∷ []) (r .hostSize) ≡ Accepted (layoutFor magic r)
+  opens-as : (magic : ℕ) → magicNumber (r .magic) ≡ magic → Passable r
+      → opened (leftBy r before) (r .code ∷ []) (r .hostSize) ≡ Accepted (layoutFor magic r)
   opens-as magic e p = opens p ∙ ap Accepted (told magic e)
 
   keys-given : Passable r → (borrowed : ℕ × ℕ) (given : List ℕ) (returned : ℕ × ℕ)

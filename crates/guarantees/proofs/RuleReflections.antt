@@ -1,4 +1,5 @@
--- The tests before any candidate, of the lengths, the codes and the host's size, and of the lengths for a new header, reflect what the guarantees say of them.
+-- The tests before any candidate, of the lengths, the codes and the host's size, and of a new header's lengths, reflect what the guarantees
+-- say of them.
 -- Assumes nothing.
 use Prim.Native.Nat.{ℕ, _*_, _%_, _^_, _≤_}
 use mathlib.Core.{Path._≡_, List.{List, [], _∷_}}

@@ -2,11 +2,11 @@
 -- Assumes nothing.
 use Prim.Native.Nat.{ℕ, _+_}
 use native.Mathlib.Omega.{arith}
-use mathlib.Core.{Path.{_≡_, refl, sym, ap, _∙_}, Bool.{true, _&&_}, List.{List, [], _∷_}}
+use mathlib.Core.{Path.{_≡_, refl, sym, ap, _∙_}, Bool.{true}, List.{List, [], _∷_}}
 use lib.{Dec.{leb, eqb}, ListN.{length, length-take, length-drop}}
 use borrow.Author.Tests.{eq-eqb, leb-true}
 use Rattle.bits.specs.Bits.{Bytes}
-use Rattle.fields.specs.Bytes.{part, allZero}
+use Rattle.fields.specs.Bytes.{part}
 use Rattle.layout.specs.{Rules.{hostSizeRule, dataAreaRule}, declared.{Layout.Layout, Opened.the-variants.Accepted}}
 use Rattle.layout.proofs.RuleLaws.{and-true-right}
 use Rattle.locations.specs.Locations.{codeRule, locationOf}

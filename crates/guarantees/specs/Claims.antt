@@ -10,7 +10,8 @@ use Rattle.guarantees.specs.{BoundaryRuns.{Numbers, CarriesRuns, BeginsR
 use Rattle.guarantees.specs.{FromHeaders.FromHeaders, Interleaving.Demand3, Judging.{KeepsRules, JudgesExactly, GivesKeys}}
 use Rattle.guarantees.specs.{MapProgram.{ReadsInput, PrintsLines}, Numbers.{SpellsNumbers, ChecksBytes}}
 use Rattle.guarantees.specs.{Opening.{OpensExactlyWhen, LocatesHeaders}, Parts.KeepsParts, Placing.{PlacesExtents, PlacesNumbers}}
-use Rattle.guarantees.specs.{SectorMap.{MapsExactly, OpenedIsSound}, Views.MakesViews, Writing.{Request, WritesExactly, LaysHeaders, ReadsBack, WritesAgain}}
+use Rattle.guarantees.specs.{SectorMap.{MapsExactly, OpenedIsSound}, Views.MakesViews}
+use Rattle.guarantees.specs.Writing.{Request, WritesExactly, LaysHeaders, ReadsBack, WritesAgain}
 
 pub record Claims : Type 0 where
   -- what the others are stated in

@@ -30,7 +30,8 @@ IsTrue h = bytesAt 64 4 h ≡ trueLetters
 
 -- the versions that headers of a magic may have
 abbrev pub Supported : List ℕ → ℕ → Type 0
-Supported magic version = (magic ≡ veraLetters → (2 ≤ version) × (version ≤ 5)) × (magic ≡ trueLetters → (version ≡ 4) ⊎ (version ≡ 5))
+Supported magic version =
+    (magic ≡ veraLetters → (2 ≤ version) × (version ≤ 5)) × (magic ≡ trueLetters → (version ≡ 4) ⊎ (version ≡ 5))
 
 -- the numbers, each at its offset with its size; the min program version alone is little-endian
 abbrev pub fieldsAt : List ℕ → Fields

@@ -1,6 +1,6 @@
--- What stands below opening: the rules for a host's size, a data area and a layout, the judgement of one candidate, and the key bytes.
--- `hostSizeRule`, `dataAreaRule`, `sound`, `magicNumber`, `versionRule`, `judge` and `KeyBytes` are the definitions that the contracts of `layout`, `header` and
--- `opening` cite. Assumes nothing.
+-- What stands below opening: the rules for a host's size, a data area and a layout, a magic and its versions, the judgement of one
+-- candidate, and the key bytes. `hostSizeRule`, `dataAreaRule`, `sound`, `magicNumber`, `versionRule`, `judge` and `KeyBytes` are the
+-- definitions that the contracts of `layout`, `header` and `opening` cite. Assumes nothing.
 use Prim.Native.Nat.{ℕ, _+_, _*_, _≤_}
 use mathlib.Core.{Path._≡_, Logic.{_⊎_, _↔_}, Bool.true, List.{List, [], _++_}}
 use lib.ListN.{length}

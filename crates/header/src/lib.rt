@@ -153,7 +153,7 @@ fn first_broken(candidate: &[u8], magic: u64, kind: u64, host_size: u64, index: 
     Opened::Accepted(layout)
 }
 
-// Whether a magic's headers may have this version.
+// Whether headers of a magic may have this version. Any other magic than VERA is judged as TRUE.
 pub fn keeps_version(magic: u64, version: u64) -> bool
     ensures { λ r. ⌜ r ≡ versionRule magic version ⌝ }
 {

@@ -63,7 +63,8 @@ laid-apart n f (c ∷ cs) h size fit away =
     ∙ one-apart n f (c .0) (c .1) h (and-true-left (apart f (c .0)) (allApart f cs) away) size (fit .0 .0) (fit .0 .1)
 
 -- the first of several
-laid-first : (n : ℕ) (c : Field × List ℕ) (cs : List (Field × List ℕ)) (h : List ℕ) → length h ≡ n → Fit n (c ∷ cs) → allApart (c .0) cs ≡ true
+laid-first : (n : ℕ) (c : Field × List ℕ) (cs : List (Field × List ℕ)) (h : List ℕ) → length h ≡ n → Fit n (c ∷ cs)
+    → allApart (c .0) cs ≡ true
     → fieldPart (c .0) (laid (c ∷ cs) h) ≡ c .1
 unfolding laid
 laid-first n c cs h size fit away =

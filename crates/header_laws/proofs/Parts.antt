@@ -16,7 +16,8 @@ use Rattle.header.specs.Header.{hiddenSizeField, dataSizeField, dataStartField,
 use Rattle.header.specs.Header.{moreReservedField, headerChecksumField, keysField, checkedField, vera, veraMagic, trueMagic}
 use Rattle.header.specs.declared.Fields.{Fields}
 use Rattle.new_header.specs.NewHeader.{magicBytes, newFields, spelling, numberContents, contents, laid, summed, newHeader}
-use Rattle.header_laws.proofs.ContentLaws.{allApart, Fit, fit-append, laid-length, laid-apart, laid-at, bytes-big-endian, bytes-little-endian, bytes-laid}
+use Rattle.header_laws.proofs.ContentLaws.{allApart, Fit, fit-append, laid-length, laid-apart, laid-at}
+use Rattle.header_laws.proofs.ContentLaws.{bytes-big-endian, bytes-little-endian, bytes-laid}
 
 -- a header that holds these fields, and zeros where there is none
 pub record Parts (f : Fields) (magic : ℕ) (salt keys h : List ℕ) : Type 0 where
@@ -135,7 +136,8 @@ module _ (layout : Layout) (salt keys : List ℕ) (saltSize : length salt ≡ 64
   abbrev at : ℕ → Field × List ℕ
   at k = getD all k (saltField, [])
 
-  found : (k : ℕ) → leb (suc k) 13 ≡ true → allApart (at k .0) (drop (suc k) all) ≡ true → fieldPart (at k .0) (newHeader layout salt keys) ≡ at k .1
+  found : (k : ℕ) → leb (suc k) 13 ≡ true → allApart (at k .0) (drop (suc k) all) ≡ true
+      → fieldPart (at k .0) (newHeader layout salt keys) ≡ at k .1
   found k inside away =
       ap (fieldPart (at k .0)) header-laid
       ∙ laid-at 512 k all (saltField, []) zeros refl all-fit (leb-true (suc k) 13 inside) away

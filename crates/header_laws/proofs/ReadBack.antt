@@ -1,23 +1,24 @@
 -- A header with these parts is read back: its magic, its fields and its checksums, and the judgement accepts it. Assumes nothing.
-use Prim.Native.Nat.{ℕ, zero, suc, _+_, _/_, _%_, _^_, _≤_, _<_}
+use Prim.Native.Nat.{ℕ, zero, suc, _%_, _^_, _≤_, _<_}
 use native.Mathlib.Omega.{arith}
-use native.Mathlib.Nat.{mod-eq-of-lt, mod-lt, zero-lt-suc}
-use mathlib.Core.{Path.{_≡_, refl, sym, ap, _∙_}, Logic.{_⊎_, inl, inr, ⊎-elim}, Bool.{Bool, true, false, _&&_, not, cond}, List.{List, [], _∷_, _++_}}
-use lib.{Dec.{leb, eqb}, ListN.{length, drop, replicate}}
+use native.Mathlib.Nat.{mod-eq-of-lt}
+use mathlib.Core.{Path.{_≡_, refl, sym, ap, _∙_}, Logic.{_⊎_, inl, inr, ⊎-elim}, Bool.{Bool, true, false, _&&_, cond}, List.List}
+use lib.{Dec.{leb, eqb}, ListN.drop}
 use borrow.Author.Tests.{leb-true, eqb-true, le-leb, eq-eqb, ne-eqb}
 use Rattle.bits.specs.Bits.{Bytes}
-use Rattle.bits.proofs.BytesLaws.{bytes-take, bytes-drop, bytes-append}
+use Rattle.bits.proofs.BytesLaws.{bytes-take, bytes-drop}
 use Rattle.fields.specs.Bytes.{fieldPart, sameBytes, allZero}
 use Rattle.numbers.specs.Numbers.{bigEndian, bigEndianBytes, littleEndian, littleEndianBytes}
 use Rattle.numbers.proofs.WrittenLaws.{big-endian-bytes-spell, little-endian-bytes-spell}
 use Rattle.crc32.specs.Crc32.{crc32}
 use Rattle.crc32.proofs.BoundLaws.{crc32-lt}
-use Rattle.layout.specs.{Rules.{standard, hidden, hostSizeRule, dataAreaRule, placeRule, sectorsRule}, declared.{Layout.Layout, Opened.the-variants.Accepted}}
+use Rattle.layout.specs.Rules.{standard, hidden, hostSizeRule, dataAreaRule, placeRule, sectorsRule}
+use Rattle.layout.specs.declared.{Layout.Layout, Opened.the-variants.Accepted}
 use Rattle.layout.proofs.RuleLaws.{and-true-left, and-true-right, host-size-most, place-ends}
-use Rattle.header.specs.Header.{keysField, keyChecksumField, headerChecksumField, checkedField, magicNumber, magicOf, fieldsOf, checksumsMatch}
+use Rattle.header.specs.Header.{checkedField, magicNumber, magicOf, fieldsOf, checksumsMatch}
 use Rattle.header.specs.Header.{isHeader, versionRule, reservedRule, flagsRule, sectorSizeRule, hiddenSizeRule, acceptedLayout, areaRule, judge}
 use Rattle.header.specs.declared.Fields.{Fields}
-use Rattle.new_header.specs.NewHeader.{magicBytes, newFields, newHeader}
+use Rattle.new_header.specs.NewHeader.{magicBytes, newFields}
 use Rattle.header_laws.proofs.Parts.{Parts}
 
 -- numbers that their fields have room for
@@ -35,7 +36,8 @@ pub record Small (f : Fields) : Type 0 where
 pub spelt : (size number : ℕ) {bytes : List ℕ} → number < 256 ^ size → bytes ≡ bigEndianBytes size number → bigEndian bytes ≡ number
 spelt size number room e = ap bigEndian e ∙ big-endian-bytes-spell size number ∙ mod-eq-of-lt room
 
-pub spelt-little : (size number : ℕ) {bytes : List ℕ} → number < 256 ^ size → bytes ≡ littleEndianBytes size number → littleEndian bytes ≡ number
+pub spelt-little : (size number : ℕ) {bytes : List ℕ} → number < 256 ^ size → bytes ≡ littleEndianBytes size number
+    → littleEndian bytes ≡ number
 spelt-little size number room e = ap littleEndian e ∙ little-endian-bytes-spell size number ∙ mod-eq-of-lt room
 
 magic-spelt : (magic : ℕ) → magic ≤ 1 → magicNumber (magicBytes magic) ≡ magic
@@ -94,9 +96,21 @@ module _ {f : Fields} {magic : ℕ} {salt keys h : List ℕ} (p : Parts f magic 
 
 -- ---- a new header's numbers fit their fields, and keep every line
 
+-- H as it is made keeps its line, for either kind
+hidden-size-made : (kind size : ℕ) → 512 ≤ size → (eqb kind standard ≡ true) ⊎ (eqb kind hidden ≡ true)
+    → hiddenSizeRule kind (cond (eqb kind hidden) size 0) size ≡ true
+unfolding hiddenSizeRule
+hidden-size-made zero size least known = refl
+hidden-size-made (suc zero) size least known = simp (ne-eqb size 0 (λ e. omega arith), eq-eqb size size refl)
+hidden-size-made (suc (suc kind)) size least known =
+    let other = suc (suc kind) in
+    absurd (⊎-elim (λ e. omega (arith, eqb-true other 0 e)) (λ e. omega (arith, eqb-true other 1 e)) known)
+
 version-small : (magic version : ℕ) → versionRule magic version ≡ true → version < 256 ^ 2
 unfolding versionRule
-version-small magic version kept = omega (arith, leb-true version 5 (and-true-left (leb version 5) (cond (eqb magic 0) (leb 2 version) (leb 4 version)) kept))
+version-small magic version kept =
+    let least = cond (eqb magic 0) (leb 2 version) (leb 4 version) in
+    omega (arith, leb-true version 5 (and-true-left (leb version 5) least kept))
 
 module _ (layout : Layout) (host : hostSizeRule (layout .«host_size») ≡ true) (area : dataAreaRule layout ≡ true) where
   place : placeRule layout ≡ true
@@ -142,18 +156,14 @@ module _ (layout : Layout) (host : hostSizeRule (layout .«host_size») ≡ true
   known-kind false false c d e = inr e
 
   hidden-size-kept : hiddenSizeRule (layout .kind) (newFields layout .«hidden_size») (layout .«data_size») ≡ true
-  unfolding placeRule hiddenSizeRule newFields
-  hidden-size-kept = go (layout .kind) (known-kind (eqb (layout .kind) standard) (eqb (layout .kind) hidden) _ _ place)
-    where
-      go : (kind : ℕ) → (eqb kind standard ≡ true) ⊎ (eqb kind hidden ≡ true)
-          → cond (eqb kind standard) (eqb (cond (eqb kind hidden) (layout .«data_size») 0) 0)
-          (eqb kind hidden && not (eqb (cond (eqb kind hidden) (layout .«data_size») 0) 0) && eqb (cond (eqb kind hidden) (layout .«data_size») 0) (layout .«data_size»))
-          ≡ true
-      go zero known = refl
-      go (suc zero) known = simp (ne-eqb (layout .«data_size») 0 (λ e. omega (arith, size-least)), eq-eqb (layout .«data_size») (layout .«data_size») refl)
-      go (suc (suc kind)) known = absurd (⊎-elim (λ e. omega (arith, eqb-true (suc (suc kind)) 0 e)) (λ e. omega (arith, eqb-true (suc (suc kind)) 1 e)) known)
+  unfolding placeRule newFields
+  hidden-size-kept =
+      hidden-size-made (layout .kind) (layout .«data_size») size-least
+      (known-kind (eqb (layout .kind) standard) (eqb (layout .kind) hidden) _ _ place)
 
-  area-kept : (magic : ℕ) → areaRule (acceptedLayout (layout .kind) (layout .«host_size») (layout .candidate) magic (newFields layout)) (newFields layout .«encrypted_size») ≡ true
+  area-kept : (magic : ℕ)
+      → areaRule (acceptedLayout (layout .kind) (layout .«host_size») (layout .candidate) magic (newFields layout)) (newFields layout .«encrypted_size»)
+      ≡ true
   unfolding areaRule acceptedLayout newFields dataAreaRule sectorsRule placeRule
   area-kept magic = simp (eq-eqb (layout .«data_size») (layout .«data_size») refl) area
 

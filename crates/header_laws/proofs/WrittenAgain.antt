@@ -1,7 +1,7 @@
 -- The parts of an accepted header, written anew, give its bytes back where the reserved ones are zero. Assumes nothing.
-use Prim.Native.Nat.{ℕ, zero, suc, _+_, _/_, _%_, _≤_, _<_}
+use Prim.Native.Nat.{ℕ, zero, suc, _+_, _/_, _%_, _≤_}
 use native.Mathlib.Omega.{arith}
-use mathlib.Core.{Path.{_≡_, refl, sym, ap, subst, _∙_}, Bool.{Bool, true, false, _&&_, not, cond, true≢false}, List.{List, [], _∷_}}
+use mathlib.Core.{Path.{_≡_, refl, sym, ap, _∙_}, Bool.{Bool, true, false, _&&_, not, cond, true≢false}, List.{List, [], _∷_}}
 use lib.{Dec.{leb, eqb}, ListN.{length, take, drop, replicate, length-take, length-drop}}
 use borrow.Author.Tests.{eqb-true, ne-eqb}
 use Rattle.bits.specs.Bits.{Bytes}
@@ -11,7 +11,7 @@ use Rattle.fields.proofs.{BytesLaws.{same-bytes-true, all-zero-replicate}, Part
 use Rattle.numbers.specs.Numbers.{bigEndian, bigEndianBytes, littleEndian, littleEndianBytes}
 use Rattle.numbers.proofs.WrittenLaws.{big-endian-bytes-again, little-endian-bytes-again}
 use Rattle.crc32.specs.Crc32.{crc32}
-use Rattle.layout.specs.{Rules.{standard, hidden, dataAreaRule}, declared.Layout.Layout}
+use Rattle.layout.specs.{Rules.{hidden, dataAreaRule}, declared.Layout.Layout}
 use Rattle.layout.proofs.RuleLaws.{and-true-left, and-true-right}
 use Rattle.header.specs.Header.{saltField, magicField, versionField, minProgramVersionField, keyChecksumField, reservedField, hiddenSizeField}
 use Rattle.header.specs.Header.{dataSizeField, dataStartField, encryptedSizeField, flagsField, sectorSizeField, moreReservedField}
@@ -22,13 +22,19 @@ use Rattle.new_header.specs.NewHeader.{magicBytes, newFields, newHeader}
 use Rattle.header_laws.proofs.Parts.{Parts, new-header-parts}
 
 -- a number that bytes spell, spelt again
-again : (size number : ℕ) (bytes : List ℕ) → length bytes ≡ size → Bytes bytes → number ≡ bigEndian bytes → bigEndianBytes size number ≡ bytes
+again : (size number : ℕ) (bytes : List ℕ) → length bytes ≡ size → Bytes bytes → number ≡ bigEndian bytes
+    → bigEndianBytes size number ≡ bytes
 again size number bytes whole small e =
-    ap (λ (n : ℕ). bigEndianBytes n number) (sym whole) ∙ ap (bigEndianBytes (length bytes)) e ∙ big-endian-bytes-again bytes (bytes-getD bytes small)
+    ap (λ (n : ℕ). bigEndianBytes n number) (sym whole)
+    ∙ ap (bigEndianBytes (length bytes)) e
+    ∙ big-endian-bytes-again bytes (bytes-getD bytes small)
 
-again-little : (size number : ℕ) (bytes : List ℕ) → length bytes ≡ size → Bytes bytes → number ≡ littleEndian bytes → littleEndianBytes size number ≡ bytes
+again-little : (size number : ℕ) (bytes : List ℕ) → length bytes ≡ size → Bytes bytes → number ≡ littleEndian bytes
+    → littleEndianBytes size number ≡ bytes
 again-little size number bytes whole small e =
-    ap (λ (n : ℕ). littleEndianBytes n number) (sym whole) ∙ ap (littleEndianBytes (length bytes)) e ∙ little-endian-bytes-again bytes (bytes-getD bytes small)
+    ap (λ (n : ℕ). littleEndianBytes n number) (sym whole)
+    ∙ ap (littleEndianBytes (length bytes)) e
+    ∙ little-endian-bytes-again bytes (bytes-getD bytes small)
 
 -- a known magic, spelt again
 magic-again : (bytes : List ℕ) → leb (magicNumber bytes) 1 ≡ true → magicBytes (magicNumber bytes) ≡ bytes
@@ -89,8 +95,15 @@ module _ (kind hostSize index : ℕ) (h : List ℕ) (layout : Layout) (kept : Ke
   part-bytes f = bytes-take (f .size) (drop (f .offset) h) (bytes-drop (f .offset) h small)
 
   -- a number of the header, spelt again
-  number-again : (f : Field) (number : ℕ) → f .offset + f .size ≤ 512 → number ≡ bigEndian (fieldPart f h) → bigEndianBytes (f .size) number ≡ fieldPart f h
+  number-again : (f : Field) (number : ℕ) → f .offset + f .size ≤ 512 → number ≡ bigEndian (fieldPart f h)
+      → bigEndianBytes (f .size) number ≡ fieldPart f h
   number-again f number inside e = again (f .size) number (fieldPart f h) (part-size f inside) (part-bytes f) e
+
+  salt-size : length (fieldPart saltField h) ≡ 64
+  salt-size = part-size saltField (omega arith)
+
+  keys-size : length (fieldPart keysField h) ≡ 256
+  keys-size = part-size keysField (omega arith)
 
   -- what the header tells
   abbrev told : Layout
@@ -114,7 +127,7 @@ module _ (kind hostSize index : ℕ) (h : List ℕ) (layout : Layout) (kept : Ke
 
   parts : Parts (newFields told) (magicOf h) (fieldPart saltField h) (fieldPart keysField h) written
   unfolding acceptedLayout
-  parts = new-header-parts told (fieldPart saltField h) (fieldPart keysField h) (part-size saltField (omega arith)) (part-size keysField (omega arith))
+  parts = new-header-parts told (fieldPart saltField h) (fieldPart keysField h) salt-size keys-size
 
   -- the fields from the magic on, up to the header's checksum
   checked-again : fieldPart reservedField h ≡ replicate 16 0 → fieldPart moreReservedField h ≡ replicate 120 0
@@ -122,7 +135,9 @@ module _ (kind hostSize index : ℕ) (h : List ℕ) (layout : Layout) (kept : Ke
   unfolding acceptedLayout newFields fieldsOf magicOf sectorSizeRule
   checked-again zeros more =
       let magic = and-true-right (eqb (length h) 512) (leb (magicOf h) 1) known in
-      let program = again-little 2 (fieldsOf h .«min_program_version») (fieldPart minProgramVersionField h) (part-size minProgramVersionField (omega arith)) (part-bytes minProgramVersionField) refl in
+      let field = minProgramVersionField in
+      let program =
+      again-little 2 (fieldsOf h .«min_program_version») (fieldPart field h) (part-size field (omega arith)) (part-bytes field) refl in
       let hiddenSize = hidden-again kind (fieldsOf h .«hidden_size») (fieldsOf h .«data_size») (kept .hiddenSize) in
       let sectorSize = sym (eqb-true (fieldsOf h .«sector_size») 512 (kept .sectorSize)) in (
         parts .magicPart ∙ magic-again (fieldPart magicField h) magic,
@@ -180,7 +195,7 @@ module _ (kind hostSize index : ℕ) (h : List ℕ) (layout : Layout) (kept : Ke
   pub again-zeros : newHeader layout (fieldPart saltField h) (fieldPart keysField h) ≡ h → Zeros h
   unfolding allZero
   again-zeros e =
-      let p = new-header-parts layout (fieldPart saltField h) (fieldPart keysField h) (part-size saltField (omega arith)) (part-size keysField (omega arith)) in
+      let p = new-header-parts layout (fieldPart saltField h) (fieldPart keysField h) salt-size keys-size in
       let zeros : fieldPart reservedField h ≡ replicate 16 0 = ap (fieldPart reservedField) (sym e) ∙ p .reservedPart in
       let more : fieldPart moreReservedField h ≡ replicate 120 0 = ap (fieldPart moreReservedField) (sym e) ∙ p .moreReservedPart in
       (ap allZero zeros, ap allZero more)

@@ -7,7 +7,8 @@ use Rattle.layout.specs.declared.Layout.{Layout}
 use Rattle.layout.proofs.RuleLaws.{and-true-left, and-true-right}
 use Rattle.new_header.specs.NewHeader.{newLengthsRule, newHeader, headerOver}
 
-pub lengths-right : (saltSize keysSize headerSize : ℕ) → newLengthsRule saltSize keysSize headerSize ≡ true → (saltSize ≡ 64) × ((keysSize ≡ 256) × (headerSize ≡ 512))
+pub lengths-right : (saltSize keysSize headerSize : ℕ) → newLengthsRule saltSize keysSize headerSize ≡ true
+    → (saltSize ≡ 64) × ((keysSize ≡ 256) × (headerSize ≡ 512))
 unfolding newLengthsRule
 lengths-right saltSize keysSize headerSize kept =
     let both = and-true-left (eqb saltSize 64 && eqb keysSize 256) (eqb headerSize 512) kept in (

@@ -59,7 +59,7 @@ contents layout salt keys =
 -- each field's bytes laid over the header, at the field's offset
 unfoldable pub laid : List (Field × List ℕ) → List ℕ → List ℕ
 laid [] h = h
-laid (content ∷ contents) h = laid contents (overlay (content .0 .offset) (content .1) h)
+laid (content ∷ rest) h = laid rest (overlay (content .0 .offset) (content .1) h)
 
 -- the checksum of one field's bytes, laid into another
 unfoldable pub summed : Field → Field → List ℕ → List ℕ

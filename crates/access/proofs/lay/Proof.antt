@@ -1,13 +1,11 @@
 -- `access::lay` meets its contract.
 -- Assumes nothing.
 use borrow.Author.Needs.{needs}
-use Prim.Native.Nat.{ℕ, _+_, _-_, _≤_}
+use Prim.Native.Nat.{ℕ, _-_}
 use mathlib.Core.{List.List, Path.{ap, _∙_}}
-use native.Mathlib.Omega.{arith}
 use borrow.Rule.Slice.PartMut.{putMid}
 use denote.Ref.{now}
 use lib.ListN.{length}
-use Rattle.fields.specs.Bytes.{overlay}
 use Rattle.access.proofs.MovingLaws.{copy-in}
 use Rattle.access.proofs.lay.Statement.{statement}
 use Rattle.access.proofs.lay.Tie as tie

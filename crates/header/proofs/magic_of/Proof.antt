@@ -1,7 +1,6 @@
 -- `header::magic_of` meets its contract.
 -- Assumes nothing.
-use Prim.Native.Nat.{ℕ}
-use mathlib.Core.{Path.{ap, _∙_}, List.List}
+use mathlib.Core.Path.{ap, _∙_}
 use Rattle.header.specs.Header.{magicNumber, magicOf}
 use borrow.Author.Needs.{needs}
 use Rattle.header.proofs.magic_of.Statement.{statement}

@@ -1,7 +1,7 @@
 -- `new_header::clear` meets its contract. The loop's invariant: as many zeros as were written, and the rest as it was.
 -- Assumes nothing.
 use Prim.Native.Nat.{_≤_, _-_}
-use mathlib.Core.Path.{_≡_, refl, sym, _∙_, ap}
+use mathlib.Core.Path.{_≡_, refl}
 use native.Mathlib.Omega.{arith}
 use denote.Ref.{now}
 use lib.ListN.{length, take, replicate, length-set}

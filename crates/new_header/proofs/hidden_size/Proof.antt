@@ -1,7 +1,6 @@
 -- `new_header::hidden_size` meets its contract.
 -- Assumes nothing.
 use mathlib.Core.Path.{refl}
-use borrow.Author.Needs.{needs}
 use borrow.Author.Tests.{eq-eqb, ne-eqb}
 use Rattle.new_header.specs.NewHeader.{newFields}
 use Rattle.new_header.proofs.hidden_size.Statement.{statement}

@@ -1,7 +1,6 @@
 -- `new_header::lengths_fit` meets its contract.
 -- Assumes nothing.
 use mathlib.Core.Path.{refl}
-use borrow.Author.Needs.{needs}
 use borrow.Author.Tests.{eq-eqb, ne-eqb}
 use Rattle.new_header.specs.NewHeader.{newLengthsRule}
 use Rattle.new_header.proofs.lengths_fit.Statement.{statement}

@@ -1,6 +1,5 @@
 -- `new_header::magic_bytes` meets its contract: the two words are the magics of the definition.
 -- Assumes nothing.
-use borrow.Author.Needs.{needs}
 use borrow.Author.Tests.{eq-eqb, ne-eqb}
 use Rattle.new_header.specs.NewHeader.{magicBytes}
 use Rattle.new_header.proofs.magic_bytes.Statement.{statement}

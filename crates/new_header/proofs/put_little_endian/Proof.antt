@@ -1,13 +1,11 @@
 -- `new_header::put_little_endian` meets its contract.
 -- Assumes nothing.
 use Prim.Native.Nat.{ℕ, _+_, _-_}
-use native.Mathlib.Omega.{arith}
-use mathlib.Core.{List.List, Path.{_≡_, ap, _∙_}}
+use mathlib.Core.{List.List, Path.{ap, _∙_}}
 use denote.Ref.{now}
-use lib.ListN.{length, take, drop, length-take, length-drop}
 use borrow.Rule.Slice.PartMut.{putMid}
 use borrow.Author.Needs.{needs}
-use Rattle.fields.proofs.OverlayLaws.{overlay-part}
+use Rattle.fields.proofs.OverlayLaws.{overlay-filled}
 use Rattle.numbers.specs.Numbers.{littleEndianBytes}
 use Rattle.numbers.proofs.WrittenLaws.{little-endian-bytes-length}
 use Rattle.new_header.proofs.put_little_endian.Statement.{statement}
@@ -37,11 +35,9 @@ returns c =
     let start = written .before .before .before .before in
     let header : List ℕ = now (start .args .header) in
     let field = start .args .field in
-    let whole : length (take (field .offset + field .size - field .offset) (drop (field .offset) header)) ≡ field .size =
-    simp (length-take, length-drop) (omega (arith, start .pre)) in
-    ap (λ (bytes : List ℕ). putMid (field .offset) (field .offset + field .size - field .offset) header bytes)
-    (written .write-little-endian .ensures ∙ ap (λ (n : ℕ). littleEndianBytes n (start .args .number)) whole)
-    ∙ overlay-part (field .offset) (field .size) (littleEndianBytes (field .size) (start .args .number)) header (little-endian-bytes-length (field .size) (start .args .number))
+    let spelt : ℕ → List ℕ = λ (n : ℕ). littleEndianBytes n (start .args .number) in
+    ap (λ (bytes : List ℕ). putMid (field .offset) (field .offset + field .size - field .offset) header bytes) (written .write-little-endian .ensures)
+    ∙ overlay-filled (field .offset) (field .size) spelt header (λ n. little-endian-bytes-length n (start .args .number)) (start .pre)
 
 pub put-little-endian-spec : {M : Type 1} → statement M
 put-little-endian-spec =

@@ -1,13 +1,11 @@
 -- `new_header::put_number` meets its contract.
 -- Assumes nothing.
 use Prim.Native.Nat.{ℕ, _+_, _-_}
-use native.Mathlib.Omega.{arith}
-use mathlib.Core.{List.List, Path.{_≡_, ap, _∙_}}
+use mathlib.Core.{List.List, Path.{ap, _∙_}}
 use denote.Ref.{now}
-use lib.ListN.{length, take, drop, length-take, length-drop}
 use borrow.Rule.Slice.PartMut.{putMid}
 use borrow.Author.Needs.{needs}
-use Rattle.fields.proofs.OverlayLaws.{overlay-part}
+use Rattle.fields.proofs.OverlayLaws.{overlay-filled}
 use Rattle.numbers.specs.Numbers.{bigEndianBytes}
 use Rattle.numbers.proofs.WrittenLaws.{big-endian-bytes-length}
 use Rattle.new_header.proofs.put_number.Statement.{statement}
@@ -37,11 +35,9 @@ returns c =
     let start = written .before .before .before .before in
     let header : List ℕ = now (start .args .header) in
     let field = start .args .field in
-    let whole : length (take (field .offset + field .size - field .offset) (drop (field .offset) header)) ≡ field .size =
-    simp (length-take, length-drop) (omega (arith, start .pre)) in
-    ap (λ (bytes : List ℕ). putMid (field .offset) (field .offset + field .size - field .offset) header bytes)
-    (written .write-big-endian .ensures ∙ ap (λ (n : ℕ). bigEndianBytes n (start .args .number)) whole)
-    ∙ overlay-part (field .offset) (field .size) (bigEndianBytes (field .size) (start .args .number)) header (big-endian-bytes-length (field .size) (start .args .number))
+    let spelt : ℕ → List ℕ = λ (n : ℕ). bigEndianBytes n (start .args .number) in
+    ap (λ (bytes : List ℕ). putMid (field .offset) (field .offset + field .size - field .offset) header bytes) (written .write-big-endian .ensures)
+    ∙ overlay-filled (field .offset) (field .size) spelt header (λ n. big-endian-bytes-length n (start .args .number)) (start .pre)
 
 pub put-number-spec : {M : Type 1} → statement M
 put-number-spec =
