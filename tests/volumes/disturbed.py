@@ -43,10 +43,17 @@ def make_files():
             os.pwrite(source.fileno(), mark(call), call * CALL)
 
 
+def usual_signals():
+    """Lets every signal do what it usually does: what a script starts in its background ignores Ctrl-C."""
+    for number in (signal.SIGHUP, signal.SIGINT, signal.SIGTERM):
+        signal.signal(number, signal.SIG_DFL)
+
+
 def start(program, verb):
     words = {'read': ['outer', '0', str(COUNT), 'wide.copy'], 'write': ['outer', '0', 'wide.source']}
     command = [program, verb, 'wide.img', '--outer', 'wide.header', *words[verb]]
-    return subprocess.Popen(command, stdout=subprocess.DEVNULL, stderr=subprocess.PIPE, text=True)
+    return subprocess.Popen(command, stdout=subprocess.DEVNULL, stderr=subprocess.PIPE, text=True,
+                            preexec_fn=usual_signals)
 
 
 def written(call):
