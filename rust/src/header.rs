@@ -12,7 +12,7 @@ use crate::{key_bytes, open, raw, Location, Magic, Refusal, HEADER_SIZE, SALT_SI
 /// let header = NewHeader {
 ///     magic: Magic::True,
 ///     version: 5,
-///     min_program_version: 7,
+///     min_program_version: 0x0700,
 ///     location: Location::Standard,
 ///     host_size: 1_048_576,
 ///     data_start: 131_072,
@@ -30,7 +30,7 @@ pub struct NewHeader<'a> {
     pub magic: Magic,
     /// The header's version.
     pub version: u16,
-    /// The least version of the program that may open the volume.
+    /// The least version of the program that may open the volume; `0x0700` is 7.0.
     pub min_program_version: u16,
     /// Where the header is to lie, which makes the volume standard or hidden.
     pub location: Location,

@@ -29,7 +29,7 @@ fn layout_fields() {
         kind: Kind::Hidden,
         magic: Magic::True,
         version: 5,
-        min_program_version: 7,
+        min_program_version: 0x0700,
         data_start: 655_360,
         data_size: 262_144,
         candidate: 1,
@@ -79,7 +79,7 @@ fn new_outer() -> NewHeader<'static> {
     NewHeader {
         magic: Magic::True,
         version: 5,
-        min_program_version: 7,
+        min_program_version: 0x0700,
         location: Location::Standard,
         host_size: HOST_SIZE,
         data_start: 131_072,
@@ -104,7 +104,7 @@ fn new_headers() {
 #[test]
 fn headers_taken_apart() {
     let apart = NewHeader::from_header(OUTER_HEADER, Location::Standard, HOST_SIZE).unwrap();
-    assert_eq!((apart.magic, apart.version, apart.min_program_version), (Magic::True, 5, 7));
+    assert_eq!((apart.magic, apart.version, apart.min_program_version), (Magic::True, 5, 0x0700));
     assert_eq!((apart.host_size, apart.data_start, apart.data_size), (HOST_SIZE, 131_072, 786_432));
     assert_eq!((apart.salt, apart.keys), (new_outer().salt, new_outer().keys));
     let salted = NewHeader { salt: &[0x5A; SALT_SIZE], ..apart }.bytes().unwrap();

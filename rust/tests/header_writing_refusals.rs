@@ -14,7 +14,7 @@ fn m() -> NewHeader {
     NewHeader {
         magic: *b"TRUE",
         version: 5,
-        min_program_version: 7,
+        min_program_version: 0x0700,
         code: 0,
         host_size: HOST_SIZE,
         data_start: 131_072,

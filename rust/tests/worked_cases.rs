@@ -5,7 +5,7 @@ mod reference;
 
 use ondristela::raw;
 use reference::access::{self, Extent, View};
-use reference::headers::Header;
+use reference::headers::{write_checksums, Header};
 use reference::layout::Layout;
 use reference::{opening, sector_map};
 
@@ -17,7 +17,7 @@ const M: Layout = Layout {
     kind: 0,
     magic: 1,
     version: 5,
-    min_program_version: 7,
+    min_program_version: 1_792,
     data_start: 131_072,
     data_size: 786_432,
     candidate: 0,
@@ -38,7 +38,7 @@ fn header(data_size: u64) -> Header {
         salt: [0; 64],
         magic: *b"VERA",
         version: 2,
-        min_program_version: 7,
+        min_program_version: 1_792,
         reserved: [0; 16],
         hidden_size: 0,
         data_size,
@@ -65,6 +65,20 @@ fn real_headers() {
         assert_eq!(raw::open(*candidate, &[code as u8], HOST_SIZE, &mut numbers), 0);
         assert_eq!(numbers, layout.numbers(), "code {code}");
         assert_eq!(opening::open(*candidate, &[code as u8], HOST_SIZE), Ok(layout), "code {code}");
+    }
+}
+
+/// The bytes at 70 of VeraCrypt's own headers and of TrueCrypt's, and what they are read as.
+#[test]
+fn min_program_versions() {
+    for (magic, bytes, expected) in [(*b"VERA", [0x01, 0x0B], 267), (*b"TRUE", [0x07, 0x00], 1_792)] {
+        let mut candidate = Header { magic, version: 5, ..header(512) }.bytes();
+        candidate[70..72].copy_from_slice(&bytes);
+        write_checksums(&mut candidate);
+        let mut numbers = [0; 8];
+        assert_eq!(raw::open(&candidate, &[0], HOST_SIZE, &mut numbers), 0);
+        let reference = opening::open(&candidate, &[0], HOST_SIZE).unwrap();
+        assert_eq!([numbers[4], reference.min_program_version], [expected; 2], "{bytes:02X?}");
     }
 }
 

@@ -16,7 +16,7 @@ static void test_volumes(void)
     CHECK(writes(&n, &volume_n, &layout_n));
 }
 
-/* VERA in place of TRUE. Bytes 70 and 71 are little-endian, whatever the magic. */
+/* VERA in place of TRUE, and other versions. */
 static void test_magics(void)
 {
     struct request m = request_m, n = request_n;
@@ -27,10 +27,10 @@ static void test_magics(void)
     m.version = n.version = 2;
     fields_m.version = fields_n.version = expected_m.version = expected_n.version = 2;
     expected_m.magic = expected_n.magic = ONDRISTELA_MAGIC_VERA;
-    m.min_program_version = 2817;
+    m.min_program_version = 267;
     fields_m.min_program_version[0] = 0x01;
     fields_m.min_program_version[1] = 0x0B;
-    expected_m.min_program_version = 2817;
+    expected_m.min_program_version = 267;
     CHECK(writes(&m, &fields_m, &expected_m));
     CHECK(writes(&n, &fields_n, &expected_n));
 }

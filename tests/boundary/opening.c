@@ -17,7 +17,7 @@ static void test_layouts(void)
     CHECK(same_layout(&layout, &layout_n));
 }
 
-/* Bytes 70 and 71 are little-endian, whatever the magic. */
+/* VERA in place of TRUE, and other versions. */
 static void test_versions(void)
 {
     struct fields fields = volume_m;
@@ -29,7 +29,7 @@ static void test_versions(void)
     fields.min_program_version[1] = 0x0B;
     expected.magic = ONDRISTELA_MAGIC_VERA;
     expected.version = 2;
-    expected.min_program_version = 2817;
+    expected.min_program_version = 267;
     CHECK(open_one(&fields, 0, HOST_SIZE, &layout) == ONDRISTELA_ACCEPTED);
     CHECK(same_layout(&layout, &expected));
 }

@@ -6,8 +6,8 @@
 #include "calls.h"
 #include "check.h"
 
-const struct request request_m = {"TRUE", 5, 7, 0, HOST_SIZE, 131072, 786432, 64, 256, 512};
-const struct request request_n = {"TRUE", 5, 7, 1, HOST_SIZE, 655360, 262144, 64, 256, 512};
+const struct request request_m = {"TRUE", 5, 1792, 0, HOST_SIZE, 131072, 786432, 64, 256, 512};
+const struct request request_n = {"TRUE", 5, 1792, 1, HOST_SIZE, 655360, 262144, 64, 256, 512};
 
 /* The header that was written last, and a byte behind it. */
 static uint8_t written[ONDRISTELA_HEADER_SIZE + 1];

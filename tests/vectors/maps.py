@@ -6,7 +6,7 @@ from .openings import HOST, ZEROS
 WORKED = '''\
 mark TRUE
 version 5
-needs 7
+needs 1792
 kind standard
 host 1048576
 start 131072
@@ -32,7 +32,7 @@ last 1791
 ONE_SECTOR = '''\
 mark VERA
 version 2
-needs 2817
+needs 267
 kind standard
 host 262656
 start 131072
@@ -45,7 +45,7 @@ last 256
 LARGEST = '''\
 mark VERA
 version 5
-needs 7
+needs 1792
 kind standard
 host 1125899906842624
 start 131072
@@ -65,10 +65,10 @@ WORKED_INPUT = map_input(0, SAMPLES[0])
 # name, what the program prints, its input
 MAPS = [
     ('worked', WORKED, WORKED_INPUT),
-    ('sample_code1', HIDDEN.format('TRUE', 7), map_input(1, SAMPLES[1])),
+    ('sample_code1', HIDDEN.format('TRUE', 1_792), map_input(1, SAMPLES[1])),
     ('sample_code2', WORKED, map_input(2, SAMPLES[2])),
-    ('sample_code3', HIDDEN.format('TRUE', 7), map_input(3, SAMPLES[3])),
-    ('hidden_vera', HIDDEN.format('VERA', 2_817), map_input(1, vera_hidden(needs=b'\x01\x0b'))),
+    ('sample_code3', HIDDEN.format('TRUE', 1_792), map_input(3, SAMPLES[3])),
+    ('hidden_vera', HIDDEN.format('VERA', 267), map_input(1, vera_hidden(needs=b'\x01\x0b'))),
     ('one_sector', ONE_SECTOR, map_input(0, vera(version=2, needs=b'\x01\x0b', data_size=512), 262_656)),
     ('largest_host', LARGEST, map_input(0, vera(data_size=2**50 - 262_144), 2**50)),
     ('empty', 'refused 1\n', b''),

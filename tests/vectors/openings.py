@@ -54,9 +54,9 @@ LOCATIONS = [
     ('VERA code 1', accepted(kind=1, magic=0), HOST, [(1, vera_hidden())]),
     ('VERA code 2', accepted(kind=0, magic=0), HOST, [(2, vera())]),
     ('VERA code 3', accepted(kind=1, magic=0), HOST, [(3, vera_hidden())]),
-    ('tcplay code 0', accepted(kind=0, magic=1, version=5, min_program_version=7,
+    ('tcplay code 0', accepted(kind=0, magic=1, version=5, min_program_version=1_792,
                                data_start=131_072, data_size=786_432), HOST, [(0, SAMPLES[0])]),
-    ('tcplay code 1', accepted(kind=1, magic=1, version=5, min_program_version=7,
+    ('tcplay code 1', accepted(kind=1, magic=1, version=5, min_program_version=1_792,
                                data_start=655_360, data_size=262_144), HOST, [(1, SAMPLES[1])]),
     ('tcplay code 2', accepted(kind=0, data_start=131_072, data_size=786_432), HOST, [(2, SAMPLES[2])]),
     ('tcplay code 3', accepted(kind=1, data_start=655_360, data_size=262_144), HOST, [(3, SAMPLES[3])]),
@@ -81,8 +81,9 @@ HEADERS = [
     ('header checksum little-endian', 4, HOST, [(0, header(spoil={252: M[255:251:-1]}))]),
     ('salt in header checksum', 4, HOST, [(0, header(spoil={252: zlib.crc32(M[:252]).to_bytes(4, 'big')}))]),
     ('not a header, and V 0', 4, HOST, [(0, changed(header(data_size=0), 511))]),
-    ('needs 07 00', accepted(min_program_version=7), HOST, [(0, header(needs=b'\x07\x00'))]),
-    ('needs 01 0B', accepted(min_program_version=2_817), HOST, [(0, header(needs=b'\x01\x0b'))]),
+    ('TRUE needs 07 00', accepted(magic=1, min_program_version=1_792), HOST, [(0, header(needs=b'\x07\x00'))]),
+    ('VERA needs 01 0B', accepted(magic=0, min_program_version=267), HOST, [(0, vera(needs=b'\x01\x0b'))]),
+    ('needs 00 07', accepted(min_program_version=7), HOST, [(0, header(needs=b'\x00\x07'))]),
     ('needs FF FF', accepted(min_program_version=65_535), HOST, [(0, header(needs=b'\xff\xff'))]),
 ]
 

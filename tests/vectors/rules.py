@@ -1,9 +1,6 @@
 """The rules for opening, for writing headers and for the sector map (docs/RULES.md), written from their text."""
 import zlib
 
-# The byte order of min_program_version, as it is read and as it is written.
-MIN_PROGRAM_VERSION_ORDER = 'little'
-
 
 def number(h, offset, size):
     return int.from_bytes(h[offset:offset + size], 'big')
@@ -67,7 +64,7 @@ def open_volume(host_size, codes, candidates):
                 'kind': code % 2,
                 'magic': int(h[64:68] == b'TRUE'),
                 'version': number(h, 68, 2),
-                'min_program_version': int.from_bytes(h[70:72], MIN_PROGRAM_VERSION_ORDER),
+                'min_program_version': number(h, 70, 2),
                 'data_start': number(h, 108, 8),
                 'data_size': number(h, 100, 8),
                 'candidate': index,
@@ -100,7 +97,7 @@ def new_header(asked):
     checked = b''.join([
         asked['magic'],
         asked['version'].to_bytes(2, 'big'),
-        asked['min_program_version'].to_bytes(2, MIN_PROGRAM_VERSION_ORDER),
+        asked['min_program_version'].to_bytes(2, 'big'),
         zlib.crc32(asked['keys']).to_bytes(4, 'big'),
         bytes(16),  # reserved
         data_size if asked['code'] in (1, 3) else bytes(8),  # H

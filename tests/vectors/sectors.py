@@ -4,7 +4,7 @@ from .rules import host_sector, is_sound, sector_count, tweak_block, user_sector
 from .openings import HOST
 
 
-def layout(host_size=HOST, kind=0, magic=1, version=5, min_program_version=7, data_start=131_072,
+def layout(host_size=HOST, kind=0, magic=1, version=5, min_program_version=1_792, data_start=131_072,
            data_size=786_432, candidate=0):
     """The worked cases' M as a layout, and with changes another one."""
     return {'host_size': host_size, 'kind': kind, 'magic': magic, 'version': version,

@@ -5,7 +5,7 @@ from .openings import HOST
 YES = 'accepted'
 
 
-def asked(magic=b'TRUE', version=5, min_program_version=7, code=0, host_size=HOST, data_start=131_072,
+def asked(magic=b'TRUE', version=5, min_program_version=1_792, code=0, host_size=HOST, data_start=131_072,
           data_size=786_432, salt=SALT, keys=KEYS, output_size=512):
     """The header of the worked cases' M, and with changes another one."""
     return {'magic': magic, 'version': version, 'min_program_version': min_program_version, 'code': code,
@@ -28,7 +28,7 @@ WRITTEN = [
     ('VERA code 2', YES, asked(magic=b'VERA', code=2)),
     ('VERA code 3', YES, asked_hidden(magic=b'VERA', code=3)),
     ('needs 0', YES, asked(min_program_version=0)),
-    ('needs 2817', YES, asked(min_program_version=2_817)),
+    ('VERA needs 267', YES, asked(magic=b'VERA', min_program_version=267)),
     ('needs 65535', YES, asked(min_program_version=65_535)),
     ('salt and keys all zeros', YES, asked(salt=bytes(64), keys=bytes(256))),
     ('salt and keys all FF', YES, asked(salt=b'\xff' * 64, keys=b'\xff' * 256)),

@@ -36,13 +36,12 @@ prepares hidden main 65,536 "vera_hidden($vera)" --magic VERA "${area[@]}"
 prepares outer backup 917,504 "vera($vera)" --magic VERA --backup
 prepares hidden backup 983,040 "vera_hidden($vera)" --magic VERA "${area[@]}" --backup
 prepares outer main 0 "header($with, data_size=1_024)" --magic TRUE --data-size 1024 --data-start 131072
-# The two bytes of 1,799 are alike, so their order does not matter.
-prepares outer main 0 "vera($with, version=2, needs=b'\x07\x07')" --magic VERA --header-version 2 \
-    --min-program-version 1799
+prepares outer main 0 "vera($with, version=2, needs=b'\x01\x26')" --magic VERA --header-version 2 \
+    --min-program-version 294
 
 # What is said, and what is made where nothing is given: another salt and other keys each time.
 expect 'a new header' 0 'image: disk.img, 1.0 MiB (1,048,576 bytes)' prepare outer one.header --magic VERA
-for words in 'header: VERA, version 5, min program version' 'place: bytes 0 to 511' 'salt: 64 new random bytes' \
+for words in 'header: VERA, version 5, min program version 267' 'place: bytes 0 to 511' 'salt: 64 new random bytes' \
     'keys: 256 new random bytes' 'data area: bytes 131,072 to 917,503, 768.0 KiB (786,432 bytes)' \
     'next: encipher the header'; do
     says 'a new header' "$words"

@@ -3,7 +3,7 @@
 use Prim.Native.Nat.{ℕ, _+_, _/_, _%_, _≤_, _<_}
 use mathlib.Core.{Path._≡_, Logic._⊎_, List.{List, [], _∷_}}
 use lib.ListN.{take, drop}
-use Rattle.numbers.specs.Numbers.{bigEndian, littleEndian}
+use Rattle.numbers.specs.Numbers.{bigEndian}
 use Rattle.crc32.specs.Crc32.{crc32}
 use Rattle.layout.specs.Rules.{standard, hidden}
 use Rattle.layout.specs.declared.Layout.{Layout}
@@ -33,12 +33,12 @@ abbrev pub Supported : List ℕ → ℕ → Type 0
 Supported magic version =
     (magic ≡ veraLetters → (2 ≤ version) × (version ≤ 5)) × (magic ≡ trueLetters → (version ≡ 4) ⊎ (version ≡ 5))
 
--- the numbers, each at its offset with its size; the min program version alone is little-endian
+-- the numbers, each at its offset with its size
 abbrev pub fieldsAt : List ℕ → Fields
 fieldsAt h =
     record {
       version = bigEndian (bytesAt 68 2 h);
-      «min_program_version» = littleEndian (bytesAt 70 2 h);
+      «min_program_version» = bigEndian (bytesAt 70 2 h);
       «hidden_size» = bigEndian (bytesAt 92 8 h);
       «data_size» = bigEndian (bytesAt 100 8 h);
       «data_start» = bigEndian (bytesAt 108 8 h);

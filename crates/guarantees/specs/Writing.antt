@@ -7,7 +7,7 @@ use lib.ListN.{length}
 use Rattle.bits.specs.Bits.{Bytes}
 use Rattle.layout.specs.declared.{Layout.Layout, Opened.the-variants.Accepted}
 use Rattle.opening.specs.Opening.{opened, KeyBytes}
-use Rattle.numbers.specs.Numbers.{bigEndianBytes, littleEndianBytes}
+use Rattle.numbers.specs.Numbers.{bigEndianBytes}
 use Rattle.crc32.specs.Crc32.{crc32}
 use Rattle.new_header.specs.NewHeader.{newLengthsRule, headerOver}
 use Rattle.header_writing.specs.HeaderWriting.{askedLayout, headerAnswer, headerLeft}
@@ -123,7 +123,7 @@ pub record Lays (layout : Layout) (salt keys h : List ℕ) : Type 0 where
   pub veraLaid : layout .magic ≡ 0 → bytesAt 64 4 h ≡ veraLetters
   pub trueLaid : (layout .magic ≡ 0 → ⊥) → bytesAt 64 4 h ≡ trueLetters
   pub versionLaid : bytesAt 68 2 h ≡ bigEndianBytes 2 (layout .version)
-  pub minProgramVersionLaid : bytesAt 70 2 h ≡ littleEndianBytes 2 (layout .«min_program_version»)
+  pub minProgramVersionLaid : bytesAt 70 2 h ≡ bigEndianBytes 2 (layout .«min_program_version»)
   pub keyChecksumLaid : bytesAt 72 4 h ≡ bigEndianBytes 4 (crc32 keys)
   pub reservedLaid : AllZero (bytesAt 76 16 h)
   pub hiddenSizeLaid : layout .kind ≡ 1 → bytesAt 92 8 h ≡ bigEndianBytes 8 (layout .«data_size»)

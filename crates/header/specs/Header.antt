@@ -4,7 +4,7 @@ use Prim.Native.Nat.{ℕ, _-_, _/_, _%_}
 use mathlib.Core.{Bool.{Bool, true, _&&_, not, cond}, List.{List, [], _∷_}}
 use lib.{Dec.{leb, eqb}, ListN.length}
 use Rattle.fields.specs.{Bytes.{fieldPart, sameBytes, allZero}, declared.Field.Field}
-use Rattle.numbers.specs.Numbers.{bigEndian, littleEndian}
+use Rattle.numbers.specs.Numbers.{bigEndian}
 use Rattle.crc32.specs.Crc32.{crc32}
 use Rattle.answers.specs.Answers.{line}
 use Rattle.layout.specs.{Rules.{standard, hidden, dataAreaRule}, declared.{Layout.Layout, Opened.Opened}}
@@ -15,7 +15,7 @@ use Rattle.header.specs.declared.Fields.{Fields}
 abbrev pub headerBytes : ℕ
 headerBytes = 512
 
--- where each field stands, in the rules' order: its offset and its size
+-- where each field stands, in the rules' order: its offset and its size; every number in a field is big-endian
 abbrev at : ℕ → ℕ → Field
 at offset size = record { offset = offset; size = size }
 
@@ -90,12 +90,12 @@ magicNumber bytes = cond (sameBytes bytes veraMagic) vera (cond (sameBytes bytes
 unfoldable pub magicOf : List ℕ → ℕ
 magicOf h = magicNumber (fieldPart magicField h)
 
--- the numbers of the header; the min program version (the lab's "least program version") alone is little-endian
+-- the numbers of the header; the min program version is the lab's "least program version"
 unfoldable pub fieldsOf : List ℕ → Fields
 fieldsOf h =
     record {
       version = bigEndian (fieldPart versionField h);
-      «min_program_version» = littleEndian (fieldPart minProgramVersionField h);
+      «min_program_version» = bigEndian (fieldPart minProgramVersionField h);
       «hidden_size» = bigEndian (fieldPart hiddenSizeField h);
       «data_size» = bigEndian (fieldPart dataSizeField h);
       «data_start» = bigEndian (fieldPart dataStartField h);

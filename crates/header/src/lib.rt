@@ -111,10 +111,7 @@ fn read_fields(candidate: &[u8]) -> Fields
 {
     Fields {
         version: number(candidate, places::VERSION),
-        min_program_version: numbers::read_little_endian(fields::field_bytes(
-            candidate,
-            places::MIN_PROGRAM_VERSION,
-        )),
+        min_program_version: number(candidate, places::MIN_PROGRAM_VERSION),
         hidden_size: number(candidate, places::HIDDEN_SIZE),
         data_size: number(candidate, places::DATA_SIZE),
         data_start: number(candidate, places::DATA_START),

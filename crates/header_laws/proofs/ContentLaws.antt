@@ -10,7 +10,7 @@ use Rattle.bits.specs.Bits.{Bytes}
 use Rattle.bits.proofs.BytesLaws.{bytes-take, bytes-drop, bytes-append}
 use Rattle.fields.specs.{Bytes.{fieldPart, overlay}, declared.Field.Field}
 use Rattle.fields.proofs.OverlayLaws.{length-overlay, part-overlay, part-before, part-behind}
-use Rattle.numbers.specs.Numbers.{bigEndianBytes, littleEndianBytes}
+use Rattle.numbers.specs.Numbers.{bigEndianBytes}
 use Rattle.layout.proofs.RuleLaws.{and-true-left, and-true-right}
 use Rattle.new_header.specs.NewHeader.{laid}
 
@@ -97,11 +97,6 @@ unfolding bigEndianBytes
 bytes-big-endian zero number = tt
 bytes-big-endian (suc size) number =
     bytes-append (bigEndianBytes size (number / 256)) (number % 256 ∷ []) (bytes-big-endian size (number / 256)) (mod-lt number (zero-lt-suc 255), tt)
-
-pub bytes-little-endian : (size number : ℕ) → Bytes (littleEndianBytes size number)
-unfolding littleEndianBytes
-bytes-little-endian zero number = tt
-bytes-little-endian (suc size) number = (mod-lt number (zero-lt-suc 255), bytes-little-endian size (number / 256))
 
 abbrev pub AllBytes : List (Field × List ℕ) → Type 0
 AllBytes [] = Unit

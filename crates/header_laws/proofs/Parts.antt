@@ -7,8 +7,8 @@ use borrow.Author.Tests.{leb-true}
 use Rattle.bits.specs.Bits.{Bytes}
 use Rattle.bits.proofs.BytesLaws.{bytes-replicate}
 use Rattle.fields.specs.{Bytes.fieldPart, declared.Field.Field}
-use Rattle.numbers.specs.Numbers.{bigEndianBytes, littleEndianBytes}
-use Rattle.numbers.proofs.WrittenLaws.{big-endian-bytes-length, little-endian-bytes-length}
+use Rattle.numbers.specs.Numbers.{bigEndianBytes}
+use Rattle.numbers.proofs.WrittenLaws.{big-endian-bytes-length}
 use Rattle.crc32.specs.Crc32.{crc32}
 use Rattle.layout.specs.declared.Layout.{Layout}
 use Rattle.header.specs.Header.{headerBytes, saltField, magicField, versionField, minProgramVersionField, keyChecksumField, reservedField}
@@ -17,7 +17,7 @@ use Rattle.header.specs.Header.{moreReservedField, headerChecksumField, keysFie
 use Rattle.header.specs.declared.Fields.{Fields}
 use Rattle.new_header.specs.NewHeader.{magicBytes, newFields, spelling, numberContents, contents, laid, summed, newHeader}
 use Rattle.header_laws.proofs.ContentLaws.{allApart, Fit, fit-append, laid-length, laid-apart, laid-at}
-use Rattle.header_laws.proofs.ContentLaws.{bytes-big-endian, bytes-little-endian, bytes-laid}
+use Rattle.header_laws.proofs.ContentLaws.{bytes-big-endian, bytes-laid}
 
 -- a header that holds these fields, and zeros where there is none
 pub record Parts (f : Fields) (magic : ℕ) (salt keys h : List ℕ) : Type 0 where
@@ -25,7 +25,7 @@ pub record Parts (f : Fields) (magic : ℕ) (salt keys h : List ℕ) : Type 0 wh
   pub saltPart : fieldPart saltField h ≡ salt
   pub magicPart : fieldPart magicField h ≡ magicBytes magic
   pub versionPart : fieldPart versionField h ≡ bigEndianBytes 2 (f .version)
-  pub minProgramVersionPart : fieldPart minProgramVersionField h ≡ littleEndianBytes 2 (f .«min_program_version»)
+  pub minProgramVersionPart : fieldPart minProgramVersionField h ≡ bigEndianBytes 2 (f .«min_program_version»)
   pub keyChecksumPart : fieldPart keyChecksumField h ≡ bigEndianBytes 4 (crc32 keys)
   pub reservedPart : fieldPart reservedField h ≡ replicate 16 0
   pub hiddenSizePart : fieldPart hiddenSizeField h ≡ bigEndianBytes 8 (f .«hidden_size»)
@@ -65,7 +65,7 @@ module _ (layout : Layout) (salt keys : List ℕ) (saltSize : length salt ≡ 64
       ∷ (magicField, magicBytes (layout .magic))
       ∷ (keysField, keys)
       ∷ spelling versionField (newFields layout .version)
-      ∷ (minProgramVersionField, littleEndianBytes 2 (newFields layout .«min_program_version»))
+      ∷ spelling minProgramVersionField (newFields layout .«min_program_version»)
       ∷ spelling hiddenSizeField (newFields layout .«hidden_size»)
       ∷ spelling dataSizeField (newFields layout .«data_size»)
       ∷ spelling dataStartField (newFields layout .«data_start»)
@@ -112,7 +112,7 @@ module _ (layout : Layout) (salt keys : List ℕ) (saltSize : length salt ≡ 64
         (
           (be 2 _, refl),
           (
-            (little-endian-bytes-length 2 _, refl),
+            (be 2 _, refl),
             ((be 8 _, refl), ((be 8 _, refl), ((be 8 _, refl), ((be 8 _, refl), ((be 4 _, refl), ((be 4 _, refl), tt)))))),
           ),
         ),
@@ -177,7 +177,6 @@ module _ (layout : Layout) (salt keys : List ℕ) (saltSize : length salt ≡ 64
   new-header-bytes smallSalt smallKeys =
       let b = bytes-big-endian in
       let magic = magic-bytes-small (layout .magic) in
-      let program = bytes-little-endian 2 (newFields layout .«min_program_version») in
       subst Bytes (sym header-laid)
       (bytes-laid all zeros (
         smallSalt,
@@ -185,7 +184,7 @@ module _ (layout : Layout) (salt keys : List ℕ) (saltSize : length salt ≡ 64
           magic,
           (
             smallKeys,
-            (b 2 _, (program, (b 8 _, (b 8 _, (b 8 _, (b 8 _, (b 4 _, (b 4 _, (b 4 _, (b 4 _, tt)))))))))),
+            (b 2 _, (b 2 _, (b 8 _, (b 8 _, (b 8 _, (b 8 _, (b 4 _, (b 4 _, (b 4 _, (b 4 _, tt)))))))))),
           ),
         ),
       )

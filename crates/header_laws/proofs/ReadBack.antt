@@ -8,8 +8,8 @@ use borrow.Author.Tests.{leb-true, eqb-true, le-leb, eq-eqb, ne-eqb}
 use Rattle.bits.specs.Bits.{Bytes}
 use Rattle.bits.proofs.BytesLaws.{bytes-take, bytes-drop}
 use Rattle.fields.specs.Bytes.{fieldPart, sameBytes, allZero}
-use Rattle.numbers.specs.Numbers.{bigEndian, bigEndianBytes, littleEndian, littleEndianBytes}
-use Rattle.numbers.proofs.WrittenLaws.{big-endian-bytes-spell, little-endian-bytes-spell}
+use Rattle.numbers.specs.Numbers.{bigEndian, bigEndianBytes}
+use Rattle.numbers.proofs.WrittenLaws.{big-endian-bytes-spell}
 use Rattle.crc32.specs.Crc32.{crc32}
 use Rattle.crc32.proofs.BoundLaws.{crc32-lt}
 use Rattle.layout.specs.Rules.{standard, hidden, hostSizeRule, dataAreaRule, placeRule, sectorsRule}
@@ -36,10 +36,6 @@ pub record Small (f : Fields) : Type 0 where
 pub spelt : (size number : ℕ) {bytes : List ℕ} → number < 256 ^ size → bytes ≡ bigEndianBytes size number → bigEndian bytes ≡ number
 spelt size number room e = ap bigEndian e ∙ big-endian-bytes-spell size number ∙ mod-eq-of-lt room
 
-pub spelt-little : (size number : ℕ) {bytes : List ℕ} → number < 256 ^ size → bytes ≡ littleEndianBytes size number
-    → littleEndian bytes ≡ number
-spelt-little size number room e = ap littleEndian e ∙ little-endian-bytes-spell size number ∙ mod-eq-of-lt room
-
 magic-spelt : (magic : ℕ) → magic ≤ 1 → magicNumber (magicBytes magic) ≡ magic
 unfolding magicNumber magicBytes sameBytes
 magic-spelt zero known = refl
@@ -51,7 +47,7 @@ module _ {f : Fields} {magic : ℕ} {salt keys h : List ℕ} (p : Parts f magic 
   unfolding fieldsOf
   fields-back s =
       let version = spelt 2 (f .version) (s .versionSmall) (p .versionPart) in
-      let program = spelt-little 2 (f .«min_program_version») (s .minProgramVersionSmall) (p .minProgramVersionPart) in
+      let program = spelt 2 (f .«min_program_version») (s .minProgramVersionSmall) (p .minProgramVersionPart) in
       let hiddenSize = spelt 8 (f .«hidden_size») (s .hiddenSizeSmall) (p .hiddenSizePart) in
       let size = spelt 8 (f .«data_size») (s .dataSizeSmall) (p .dataSizePart) in
       let start = spelt 8 (f .«data_start») (s .dataStartSmall) (p .dataStartPart) in

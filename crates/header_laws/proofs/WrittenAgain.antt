@@ -8,8 +8,8 @@ use Rattle.bits.specs.Bits.{Bytes}
 use Rattle.bits.proofs.BytesLaws.{bytes-take, bytes-drop, bytes-getD}
 use Rattle.fields.specs.{Bytes.{part, fieldPart, sameBytes, allZero}, declared.Field.Field}
 use Rattle.fields.proofs.{BytesLaws.{same-bytes-true, all-zero-replicate}, PartLaws.{SameParts, same-parts, same-whole}}
-use Rattle.numbers.specs.Numbers.{bigEndian, bigEndianBytes, littleEndian, littleEndianBytes}
-use Rattle.numbers.proofs.WrittenLaws.{big-endian-bytes-again, little-endian-bytes-again}
+use Rattle.numbers.specs.Numbers.{bigEndian, bigEndianBytes}
+use Rattle.numbers.proofs.WrittenLaws.{big-endian-bytes-again}
 use Rattle.crc32.specs.Crc32.{crc32}
 use Rattle.layout.specs.{Rules.{hidden, dataAreaRule}, declared.Layout.Layout}
 use Rattle.layout.proofs.RuleLaws.{and-true-left, and-true-right}
@@ -28,13 +28,6 @@ again size number bytes whole small e =
     ap (λ (n : ℕ). bigEndianBytes n number) (sym whole)
     ∙ ap (bigEndianBytes (length bytes)) e
     ∙ big-endian-bytes-again bytes (bytes-getD bytes small)
-
-again-little : (size number : ℕ) (bytes : List ℕ) → length bytes ≡ size → Bytes bytes → number ≡ littleEndian bytes
-    → littleEndianBytes size number ≡ bytes
-again-little size number bytes whole small e =
-    ap (λ (n : ℕ). littleEndianBytes n number) (sym whole)
-    ∙ ap (littleEndianBytes (length bytes)) e
-    ∙ little-endian-bytes-again bytes (bytes-getD bytes small)
 
 -- a known magic, spelt again
 magic-again : (bytes : List ℕ) → leb (magicNumber bytes) 1 ≡ true → magicBytes (magicNumber bytes) ≡ bytes
@@ -135,16 +128,13 @@ module _ (kind hostSize index : ℕ) (h : List ℕ) (layout : Layout) (kept : Ke
   unfolding acceptedLayout newFields fieldsOf magicOf sectorSizeRule
   checked-again zeros more =
       let magic = and-true-right (eqb (length h) 512) (leb (magicOf h) 1) known in
-      let field = minProgramVersionField in
-      let program =
-      again-little 2 (fieldsOf h .«min_program_version») (fieldPart field h) (part-size field (omega arith)) (part-bytes field) refl in
       let hiddenSize = hidden-again kind (fieldsOf h .«hidden_size») (fieldsOf h .«data_size») (kept .hiddenSize) in
       let sectorSize = sym (eqb-true (fieldsOf h .«sector_size») 512 (kept .sectorSize)) in (
         parts .magicPart ∙ magic-again (fieldPart magicField h) magic,
         (
           parts .versionPart ∙ number-again versionField (fieldsOf h .version) (omega arith) refl,
           (
-            parts .minProgramVersionPart ∙ program,
+            parts .minProgramVersionPart ∙ number-again minProgramVersionField (fieldsOf h .«min_program_version») (omega arith) refl,
             (
               parts .keyChecksumPart ∙ number-again keyChecksumField (crc32 (fieldPart keysField h)) (omega arith) keys-sum,
               (

@@ -3,7 +3,7 @@ use Prim.Native.Nat.{ℕ}
 use mathlib.Core.{Bool.{Bool, _&&_, cond}, List.{List, [], _∷_}}
 use lib.{Dec.eqb, ListN.{length, replicate}}
 use Rattle.fields.specs.{Bytes.{fieldPart, overlay}, declared.Field.Field}
-use Rattle.numbers.specs.Numbers.{bigEndianBytes, littleEndianBytes}
+use Rattle.numbers.specs.Numbers.{bigEndianBytes}
 use Rattle.crc32.specs.Crc32.{crc32}
 use Rattle.layout.specs.{Rules.{sectorBytes, hidden}, declared.Layout.Layout}
 use Rattle.header.specs.Header.{headerBytes, saltField, magicField, versionField, minProgramVersionField, keyChecksumField, hiddenSizeField}
@@ -38,11 +38,11 @@ newFields layout =
 abbrev pub spelling : Field → ℕ → Field × List ℕ
 spelling field number = (field, bigEndianBytes (field .size) number)
 
--- the fields that hold numbers, with their bytes; the min program version alone is little-endian
+-- the fields that hold numbers, with their bytes
 unfoldable pub numberContents : Fields → List (Field × List ℕ)
 numberContents f =
     spelling versionField (f .version)
-    ∷ (minProgramVersionField, littleEndianBytes (minProgramVersionField .size) (f .«min_program_version»))
+    ∷ spelling minProgramVersionField (f .«min_program_version»)
     ∷ spelling hiddenSizeField (f .«hidden_size»)
     ∷ spelling dataSizeField (f .«data_size»)
     ∷ spelling dataStartField (f .«data_start»)

@@ -4,7 +4,7 @@ ghost use mathlib.Core.Path.{_≡_};
 ghost use Prim.Native.Nat.{_+_, _≤_};
 ghost use lib.ListN.{length, replicate};
 ghost use Rattle.fields.specs.Bytes.{overlay};
-ghost use Rattle.numbers.specs.Numbers.{bigEndianBytes, littleEndianBytes};
+ghost use Rattle.numbers.specs.Numbers.{bigEndianBytes};
 ghost use Rattle.header.specs.Header.{headerBytes};
 ghost use Rattle.new_header.specs.NewHeader.{newLengthsRule, magicBytes, newFields, numberContents, contents, laid};
 ghost use Rattle.new_header.specs.NewHeader.{summed, newHeader, headerOver};
@@ -120,7 +120,7 @@ fn put_numbers(header: &mut [u8], fields: Fields)
     ensures { λ _. ⌜ now (header .exit) ≡ laid (numberContents fields) (now (header .entry)) ⌝ }
 {
     put_number(header, places::VERSION, fields.version);
-    put_little_endian(
+    put_number(
         header,
         places::MIN_PROGRAM_VERSION,
         fields.min_program_version,
@@ -141,16 +141,6 @@ fn put_number(header: &mut [u8], field: Field, number: u64)
     let start = field.offset;
     let end = start + field.size;
     numbers::write_big_endian(number, &mut header[start..end]);
-}
-
-// Spells a number in a field, the first byte the least significant.
-fn put_little_endian(header: &mut [u8], field: Field, number: u64)
-    requires { ⌜ field .offset + field .size ≤ length (now header) ⌝ }
-    ensures { λ _. ⌜ now (header .exit) ≡ overlay (field .offset) (littleEndianBytes (field .size) number) (now (header .entry)) ⌝ }
-{
-    let start = field.offset;
-    let end = start + field.size;
-    numbers::write_little_endian(number, &mut header[start..end]);
 }
 
 // Spells the checksum of one field in another.

@@ -55,14 +55,6 @@ little-endian-bytes-spell zero number = sym (mod-one number)
 little-endian-bytes-spell (suc size) number =
     rw (little-endian-bytes-spell size (number / 256), pow-suc, mod-mul number (pow-pos-256 size) (zero-lt-suc 255)) (omega arith)
 
-pub little-endian-bytes-again : (bs : List ℕ) → ((i : ℕ) → getD bs i 0 < 256) → littleEndianBytes (length bs) (littleEndian bs) ≡ bs
-unfolding littleEndian littleEndianBytes
-little-endian-bytes-again [] bytes = refl
-little-endian-bytes-again (b ∷ bs) bytes =
-    let m : (b + 256 * littleEndian bs) % 256 ≡ b = omega (arith, bytes 0) in
-    let d : (b + 256 * littleEndian bs) / 256 ≡ littleEndian bs = omega (arith, bytes 0) in
-    rw (m, d) (ap (λ (rest : List ℕ). b ∷ rest) (little-endian-bytes-again bs (λ i. bytes (suc i))))
-
 -- ---- big-endian: the same from behind
 
 pub big-endian-bytes-length : (size number : ℕ) → length (bigEndianBytes size number) ≡ size

@@ -1,7 +1,7 @@
 -- The worked cases hold: antt computes both sides.
 -- Assumes nothing.
 use mathlib.Core.{Path.{_≡_, refl}, List.map}
-use Rattle.numbers.specs.Numbers.{bigEndian, bigEndianFrom, bigEndianBytes, littleEndian, littleEndianBytes}
+use Rattle.numbers.specs.Numbers.{bigEndian, bigEndianFrom, bigEndianBytes, littleEndianBytes}
 use Rattle.fields.specs.Bytes.{sameBytes, allZero}
 use Rattle.crc32.specs.Crc32.{crc32, crcFrom, bitSteps, bitStep}
 use Rattle.layout.specs.Rules.{hostSizeRule, placeRule, sectorsRule, dataAreaRule, sound}
@@ -27,14 +27,14 @@ unfolding cases opens toldOf headerWith fieldBytes bigEndianBytes volume volumeM
     opened lengthsRule codesRule codeRule hostSizeRule searched further judgements candidateAt locationOf locations
     judge isHeader magicNumber magicOf fieldsOf checksumsMatch sameBytes allZero acceptedLayout
     versionRule reservedRule flagsRule sectorSizeRule hiddenSizeRule areaRule dataAreaRule sectorsRule placeRule
-    crc32 crcFrom bitStep bitSteps bigEndian bigEndianFrom littleEndian
+    crc32 crcFrom bitStep bitSteps bigEndian bigEndianFrom
     hostSector userSector tweakNumber tweakOf blockOf sectors firstSector sound littleEndianBytes
     onView writing reading leaving plainView protectedView plainOf protectedOf nests areaEnd protectionRule soundProtection
     protectedExtent pairAnswer madeBy checked apartAnswer lockAnswer readAnswer writeAnswer lockedAfter after answerRefusal has larger overlap
 table = refl
 
 output : layoutLines volumeM
-    ≡ letters "mark TRUE\nversion 5\nneeds 7\nkind standard\nhost 1048576\nstart 131072\nsize 786432\nsectors 1536\nfirst 256\nlast 1791\n"
+    ≡ letters "mark TRUE\nversion 5\nneeds 1792\nkind standard\nhost 1048576\nstart 131072\nsize 786432\nsectors 1536\nfirst 256\nlast 1791\n"
 unfolding layoutLines headerLines areaLines sectorLines magicLine kindLine eitherLine numberLine textLine
     decimal digits sectors firstSector lastSector volume volumeM
 output = refl

@@ -25,7 +25,7 @@ use Rattle.guarantees.specs.MapProgram.{letters}
 -- keys' checksum, V and E
 unfoldable pub fieldBytes : ℕ → ℕ → ℕ → List ℕ
 fieldBytes keyChecksum size encryptedSize =
-    trueMagic ++ bigEndianBytes 2 5 ++ (7 ∷ 0 ∷ []) ++ bigEndianBytes 4 keyChecksum ++ replicate 16 0
+    trueMagic ++ bigEndianBytes 2 5 ++ bigEndianBytes 2 1792 ++ bigEndianBytes 4 keyChecksum ++ replicate 16 0
     ++ bigEndianBytes 8 0 ++ bigEndianBytes 8 size ++ bigEndianBytes 8 131072 ++ bigEndianBytes 8 encryptedSize
     ++ bigEndianBytes 4 0 ++ bigEndianBytes 4 512 ++ replicate 120 0
 
@@ -52,7 +52,7 @@ volume kind start size candidate =
       kind = kind;
       magic = 1;
       version = 5;
-      «min_program_version» = 7;
+      «min_program_version» = 1792;
       «data_start» = start;
       «data_size» = size;
       candidate = candidate;
@@ -130,4 +130,4 @@ cases =
 pub record AsWorked : Type 0 where
   pub table : map (λ c. c .0) cases ≡ map (λ c. c .1) cases
   pub output : layoutLines volumeM
-      ≡ letters "mark TRUE\nversion 5\nneeds 7\nkind standard\nhost 1048576\nstart 131072\nsize 786432\nsectors 1536\nfirst 256\nlast 1791\n"
+      ≡ letters "mark TRUE\nversion 5\nneeds 1792\nkind standard\nhost 1048576\nstart 131072\nsize 786432\nsectors 1536\nfirst 256\nlast 1791\n"

@@ -88,7 +88,7 @@ fn judge(header: &[u8], kind: Kind, host_size: u64, candidate: usize) -> Result<
     if be64(header, 116) != data_size || !fits(kind, host_size, data_start, data_size) {
         return Err(10);
     }
-    let min_program_version = u16::from_le_bytes([header[70], header[71]]);
+    let min_program_version = u16::from_be_bytes([header[70], header[71]]);
     Ok(Layout { host_size, kind, magic, version, min_program_version, data_start, data_size, candidate })
 }
 

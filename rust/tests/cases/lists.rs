@@ -88,7 +88,7 @@ fn nested(random: &mut Random) -> [Layout; 2] {
         kind: STANDARD,
         magic: random.below(2),
         version: 5,
-        min_program_version: 7,
+        min_program_version: 0x0700,
         data_start: HEADERS_SIZE,
         data_size: SECTOR * outer_sectors,
         candidate: random.below(64),

@@ -31,21 +31,8 @@ fn big_endian(bytes: &[u8]) -> u64 {
     bytes.iter().fold(0, |number, byte| number * 256 + u64::from(*byte))
 }
 
-fn little_endian(bytes: &[u8]) -> u64 {
-    bytes.iter().rev().fold(0, |number, byte| number * 256 + u64::from(*byte))
-}
-
 fn field(candidate: &[u8], range: Range<usize>) -> u64 {
     big_endian(&candidate[range])
-}
-
-/// The min program version, which alone has its low byte first, as it is read and as it is written.
-fn min_program_version(candidate: &[u8]) -> u64 {
-    little_endian(&candidate[MIN_PROGRAM_VERSION])
-}
-
-pub fn min_program_version_bytes(number: u16) -> [u8; 2] {
-    number.to_le_bytes()
 }
 
 fn is_vera(candidate: &[u8]) -> bool {
@@ -125,7 +112,7 @@ pub fn layout(candidate: &[u8], kind: u64, host_size: u64, index: usize) -> Layo
         kind,
         magic: if is_vera(candidate) { 0 } else { 1 },
         version: field(candidate, VERSION),
-        min_program_version: min_program_version(candidate),
+        min_program_version: field(candidate, MIN_PROGRAM_VERSION),
         data_start: field(candidate, DATA_START),
         data_size: field(candidate, DATA_SIZE),
         candidate: index as u64,

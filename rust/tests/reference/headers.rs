@@ -36,7 +36,7 @@ impl Header {
         put(bytes, SALT, &self.salt);
         put(bytes, MAGIC, &self.magic);
         put(bytes, VERSION, &self.version.to_be_bytes());
-        put(bytes, MIN_PROGRAM_VERSION, &min_program_version_bytes(self.min_program_version));
+        put(bytes, MIN_PROGRAM_VERSION, &self.min_program_version.to_be_bytes());
         put(bytes, RESERVED, &self.reserved);
         put(bytes, HIDDEN_SIZE, &self.hidden_size.to_be_bytes());
         put(bytes, DATA_SIZE, &self.data_size.to_be_bytes());

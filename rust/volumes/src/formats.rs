@@ -10,8 +10,8 @@ pub const HEADER_VERSION: u16 = 5;
 /// The number that the library reads in headers of the format's own program.
 pub fn min_program_version(magic: Magic) -> u16 {
     match magic {
-        Magic::Vera => 2_817,
-        Magic::True => 7,
+        Magic::Vera => 0x010B,
+        Magic::True => 0x0700,
     }
 }
 

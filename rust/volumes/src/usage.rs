@@ -50,8 +50,8 @@ outer volume with all the room that IMAGE has, where nothing else is said:
                          are its last 256 bytes
     --header-version N   for VERA 2 to 5, for TRUE 4 or 5; else 5
     --min-program-version N
-                         else the one that headers of VeraCrypt and
-                         TrueCrypt have
+                         else the one that headers of VeraCrypt or
+                         TrueCrypt have, 267 or 1792
 FILE has the keys in the clear, and only its owner can read it. It has to be
 enciphered before it goes on a disk, which this program does not do.
 

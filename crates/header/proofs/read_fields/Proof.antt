@@ -1,10 +1,8 @@
 -- `header::read_fields` meets its contract, field by field.
 -- Assumes nothing.
-use native.Mathlib.Omega.{arith}
 use mathlib.Core.Path.{_≡_}
-use lib.ListN.{length-take}
 use denote.Ref.{now}
-use Rattle.numbers.specs.Numbers.{bigEndian, littleEndian}
+use Rattle.numbers.specs.Numbers.{bigEndian}
 use Rattle.fields.specs.Bytes.{fieldPart}
 use Rattle.header.specs.Header.{versionField, minProgramVersionField, hiddenSizeField, dataSizeField, dataStartField}
 use Rattle.header.specs.Header.{encryptedSizeField, flagsField, sectorSizeField, fieldsOf}
@@ -14,12 +12,6 @@ use Rattle.header.proofs.read_fields.Tie as tie
 
 number-requires : tie.Need-number-requires
 number-requires c κs = search needs
-
-field-bytes-requires : tie.Need-field-bytes-requires
-field-bytes-requires c κs = search needs
-
-read-little-endian-requires : tie.Need-read-little-endian-requires
-read-little-endian-requires c κs = search needs
 
 number-requires-2 : tie.Need-number-requires-2
 number-requires-2 c κs = search needs
@@ -39,6 +31,9 @@ number-requires-6 c κs = search needs
 number-requires-7 : tie.Need-number-requires-7
 number-requires-7 c κs = search needs
 
+number-requires-8 : tie.Need-number-requires-8
+number-requires-8 c κs = search needs
+
 returns : tie.Need-returns
 unfolding fieldsOf
 returns c =
@@ -48,18 +43,16 @@ returns c =
     let size = start .before in
     let hidden = size .before in
     let program = hidden .before in
-    let version = program .before .before in
+    let version = program .before in
     let h = now (version .before .before .args .candidate) in
-    let bytes = program .before .field-bytes .ensures in
     let v-is : version .number .result ≡ bigEndian (fieldPart versionField h) = version .number .ensures in
-    let p-is : program .read-little-endian .result ≡ littleEndian (fieldPart minProgramVersionField h) =
-    rw bytes at (program .read-little-endian .ensures .whole (rw bytes (simp length-take (omega arith)))) in
-    let hs-is : hidden .number2 .result ≡ bigEndian (fieldPart hiddenSizeField h) = hidden .number2 .ensures in
-    let ds-is : size .number3 .result ≡ bigEndian (fieldPart dataSizeField h) = size .number3 .ensures in
-    let o-is : start .number4 .result ≡ bigEndian (fieldPart dataStartField h) = start .number4 .ensures in
-    let e-is : encrypted .number5 .result ≡ bigEndian (fieldPart encryptedSizeField h) = encrypted .number5 .ensures in
-    let fl-is : flags .number6 .result ≡ bigEndian (fieldPart flagsField h) = flags .number6 .ensures in
-    let z-is : c .number7 .result ≡ bigEndian (fieldPart sectorSizeField h) = c .number7 .ensures in
+    let p-is : program .number2 .result ≡ bigEndian (fieldPart minProgramVersionField h) = program .number2 .ensures in
+    let hs-is : hidden .number3 .result ≡ bigEndian (fieldPart hiddenSizeField h) = hidden .number3 .ensures in
+    let ds-is : size .number4 .result ≡ bigEndian (fieldPart dataSizeField h) = size .number4 .ensures in
+    let o-is : start .number5 .result ≡ bigEndian (fieldPart dataStartField h) = start .number5 .ensures in
+    let e-is : encrypted .number6 .result ≡ bigEndian (fieldPart encryptedSizeField h) = encrypted .number6 .ensures in
+    let fl-is : flags .number7 .result ≡ bigEndian (fieldPart flagsField h) = flags .number7 .ensures in
+    let z-is : c .number8 .result ≡ bigEndian (fieldPart sectorSizeField h) = c .number8 .ensures in
     λ i. record {
       version = v-is i;
       «min_program_version» = p-is i;
@@ -76,12 +69,11 @@ read-fields-spec =
     tie.close
     (tie.spec
     number-requires
-    field-bytes-requires
-    read-little-endian-requires
     number-requires-2
     number-requires-3
     number-requires-4
     number-requires-5
     number-requires-6
     number-requires-7
+    number-requires-8
     returns)

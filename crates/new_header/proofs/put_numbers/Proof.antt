@@ -1,16 +1,18 @@
 -- `new_header::put_numbers` meets its contract, a number after the other.
 -- Assumes nothing.
-use Rattle.new_header.specs.NewHeader.{numberContents, laid}
-use mathlib.Core.Path.{refl}
+use Prim.Native.Nat.{ℕ}
+use mathlib.Core.{Path.{_≡_, refl, ap, _∙_}, List.List}
 use borrow.Author.Needs.{needs}
+use Rattle.fields.specs.{Bytes.overlay, declared.Field.Field}
+use Rattle.numbers.specs.Numbers.{bigEndianBytes}
+use Rattle.header.specs.Header.{versionField, minProgramVersionField, hiddenSizeField, dataSizeField, dataStartField}
+use Rattle.header.specs.Header.{encryptedSizeField, flagsField, sectorSizeField}
+use Rattle.new_header.specs.NewHeader.{numberContents, laid}
 use Rattle.new_header.proofs.put_numbers.Statement.{statement}
 use Rattle.new_header.proofs.put_numbers.Tie as tie
 
 put-number-requires : tie.Need-put-number-requires
 put-number-requires c κs = search needs
-
-put-little-endian-requires : tie.Need-put-little-endian-requires
-put-little-endian-requires c κs = search needs
 
 put-number-requires-2 : tie.Need-put-number-requires-2
 put-number-requires-2 c κs = search needs
@@ -30,8 +32,16 @@ put-number-requires-6 c κs = search needs
 put-number-requires-7 : tie.Need-put-number-requires-7
 put-number-requires-7 c κs = search needs
 
+put-number-requires-8 : tie.Need-put-number-requires-8
+put-number-requires-8 c κs = search needs
+
 same-length : tie.Need-same-length
 same-length c = search needs
+
+-- one number more, laid over what the numbers before it have left
+over : {bytes before after : List ℕ} (field : Field) (number : ℕ) → after ≡ overlay (field .offset) (bigEndianBytes (field .size) number) before
+    → before ≡ bytes → after ≡ overlay (field .offset) (bigEndianBytes (field .size) number) bytes
+over field number last others = last ∙ ap (overlay (field .offset) (bigEndianBytes (field .size) number)) others
 
 returns : tie.Need-returns
 unfolding numberContents laid
@@ -44,28 +54,27 @@ returns c =
     let hidden = size .before .before .before .before in
     let program = hidden .before .before .before .before in
     let version = program .before .before .before .before in
-    rw (
-      sectors .put-number7 .ensures,
-      flags .put-number6 .ensures,
-      encrypted .put-number5 .ensures,
-      start .put-number4 .ensures,
-      size .put-number3 .ensures,
-      hidden .put-number2 .ensures,
-      program .put-little-endian .ensures,
-      version .put-number .ensures,
-    ) refl
+    let f = version .before .before .before .args .fields in
+    over sectorSizeField (f .«sector_size») (sectors .put-number8 .ensures)
+    (over flagsField (f .flags) (flags .put-number7 .ensures)
+    (over encryptedSizeField (f .«encrypted_size») (encrypted .put-number6 .ensures)
+    (over dataStartField (f .«data_start») (start .put-number5 .ensures)
+    (over dataSizeField (f .«data_size») (size .put-number4 .ensures)
+    (over hiddenSizeField (f .«hidden_size») (hidden .put-number3 .ensures)
+    (over minProgramVersionField (f .«min_program_version») (program .put-number2 .ensures)
+    (over versionField (f .version) (version .put-number .ensures) refl)))))))
 
 pub put-numbers-spec : {M : Type 1} → statement M
 put-numbers-spec =
     tie.close
     (tie.spec
     put-number-requires
-    put-little-endian-requires
     put-number-requires-2
     put-number-requires-3
     put-number-requires-4
     put-number-requires-5
     put-number-requires-6
     put-number-requires-7
+    put-number-requires-8
     same-length
     returns)
