@@ -184,7 +184,7 @@ struct ondristela_layout {
     uint64_t kind;                /* ONDRISTELA_KIND_.. */
     uint64_t magic;               /* ONDRISTELA_MAGIC_.. */
     uint64_t version;             /* of the header */
-    uint64_t min_program_version; /* the least version of the program that may open the volume */
+    uint64_t min_program_version; /* the least version of the program that may open the volume; 0x0700 is 7.0 */
     uint64_t data_start;          /* the data area's first byte in the host */
     uint64_t data_size;           /* bytes of the data area */
     uint64_t candidate;           /* the index of the candidate that was accepted */

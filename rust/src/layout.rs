@@ -43,7 +43,7 @@ pub struct Layout {
     pub magic: Magic,
     /// The header's version.
     pub version: u64,
-    /// The least version of the program that may open the volume.
+    /// The least version of the program that may open the volume; `0x0700` is 7.0.
     pub min_program_version: u64,
     /// The data area's first byte in the host.
     pub data_start: u64,
