@@ -95,32 +95,27 @@ unfoldable pub cases : List (List ℕ × List ℕ)
 cases =
     let keyChecksum = crc32 (replicate 256 0) in
     let oneSector = headerWith keyChecksum 512 512 in
-    -- S 262,656, V 512: accepted, one sector
+    -- opening: in the least host, and in one that is a sector smaller
     (opens 262656 oneSector, 0 ∷ 1 ∷ [])
-    -- S 262,144: 3
     ∷ (opens 262144 oneSector, 3 ∷ [])
-    -- V 786,944 in M's place: 10
+    -- .. with a data area that is a sector too large, and with one near 2^64
     ∷ (opens 1048576 (headerWith keyChecksum 786944 786944), 10 ∷ [])
-    -- V and E 2^64-512: 10
     ∷ (opens 1048576 (headerWith keyChecksum (2 ^ 64 - 512) (2 ^ 64 - 512)), 10 ∷ [])
-    -- M sector 0 has tweak 256, block 00 01 and fourteen zeros
+    -- the map: M's first sector, its last, the one past it, and N's first
     ∷ (tweakTold (tweakOf volumeM 0), 0 ∷ 256 ∷ 0x00 ∷ 0x01 ∷ replicate 14 0)
-    -- M sector 1,535 has tweak 1,791, block FF 06 and fourteen zeros
     ∷ (tweakTold (tweakOf volumeM 1535), 0 ∷ 1791 ∷ 0xFF ∷ 0x06 ∷ replicate 14 0)
-    -- M sector 1,536: 16
     ∷ (mappedTold (hostSector volumeM 1536), 16 ∷ [])
-    -- N sector 0 has tweak 1,280, block 00 05 and fourteen zeros
     ∷ (tweakTold (tweakOf volumeN 0), 0 ∷ 1280 ∷ 0x00 ∷ 0x05 ∷ replicate 14 0)
-    -- back: host sector 255: 16; 256 gives 0 in M
+    -- .. and back: the host sector before M's data area, and the first in it
     ∷ (mappedTold (userSector volumeM 255), 16 ∷ [])
     ∷ (mappedTold (userSector volumeM 256), 0 ∷ 0 ∷ [])
-    -- M protecting N: write 1,023 count 1 accepted; count 2: 18
+    -- M with N protected: a write that ends where N begins, and one that goes on into N
     ∷ (onView (protectedView volumeM volumeN) (writing 1023 1), 0 ∷ [])
     ∷ (onView (protectedView volumeM volumeN) (writing 1023 2), 18 ∷ [])
-    -- after that 18, write 0 count 1: 17; read 0 count 1 accepted
+    -- .. and through the view which that one leaves, a write and a read elsewhere
     ∷ (onView (protectedView volumeM volumeN) (λ view. writing 0 1 (leaving 1023 2 view)), 17 ∷ [])
     ∷ (onView (protectedView volumeM volumeN) (λ view. reading 0 1 (leaving 1023 2 view)), 0 ∷ [])
-    -- plain view of M: write 1,536 count 0 accepted, count 1: 16; 1,537 count 0: 16
+    -- M alone: no sector at its end, one sector there, and no sector past its end
     ∷ (onView (plainView volumeM) (writing 1536 0), 0 ∷ [])
     ∷ (onView (plainView volumeM) (writing 1536 1), 16 ∷ [])
     ∷ (onView (plainView volumeM) (writing 1537 0), 16 ∷ [])
