@@ -3,11 +3,11 @@
 use Prim.Native.Nat.{ℕ, _+_, _-_, _*_, _≤_}
 use native.Mathlib.Omega.{arith}
 use native.Mathlib.Nat.{add-sub-cancel-left}
-use mathlib.Core.{Path.{_≡_, ap, _∙_}, List.{List, _++_, append-nil}}
+use mathlib.Core.{Path.{_≡_, ap, _∙_}, Bool.false, List.{List, _++_, append-nil}}
 use lib.{ListN.{length, take, drop, drop-of-length-le, length-take, length-drop}, Seq.length-take-le}
 use borrow.Author.Tests.{le-leb}
 use borrow.Rule.Slice.PartMut.{putMid}
-use Rattle.answers.specs.{Answers.isAccepted, declared.Answer.{Answer, the-variants.{Accepted, Refused}}}
+use Rattle.answers.specs.{Answers.isAccepted, declared.Answer.{Answer, the-variants.Accepted}}
 use Rattle.fields.specs.Bytes.{overlay}
 use Rattle.fields.proofs.OverlayLaws.{overlay-rest}
 use Rattle.copy.specs.Copy.{maxSize, copied}
@@ -53,15 +53,15 @@ module _ (answer : Answer) (layout : Layout) (image : List ℕ) (first : ℕ) (b
   unfolding filledBy isAccepted
   filled-accepted count start e at whole = rw (e, at, whole)
 
-  pub filled-refused : (count number : ℕ) → answer ≡ Refused number → buffer ≡ filledBy answer layout image first count buffer
-  unfolding filledBy isAccepted
-  filled-refused count number e = rw e
+  pub filled-refused : (count : ℕ) → isAccepted answer ≡ false → buffer ≡ filledBy answer layout image first count buffer
+  unfolding filledBy
+  filled-refused count e = rw e
 
   pub written-accepted : (start : ℕ) → answer ≡ Accepted → start ≡ extentStart layout first
       → overlay start buffer image ≡ writtenBy answer layout image first buffer
   unfolding writtenBy isAccepted
   written-accepted start e at = rw (e, at)
 
-  pub written-refused : (number : ℕ) → answer ≡ Refused number → image ≡ writtenBy answer layout image first buffer
-  unfolding writtenBy isAccepted
-  written-refused number e = rw e
+  pub written-refused : isAccepted answer ≡ false → image ≡ writtenBy answer layout image first buffer
+  unfolding writtenBy
+  written-refused e = rw e

@@ -9,7 +9,7 @@ ghost use Rattle.copy.specs.Copy.{maxSize};
 ghost use Rattle.judgement.specs.Judging.{readAnswer, writeAnswer};
 ghost use Rattle.access.specs.Moving.{filledBy, writtenBy};
 use answers::Answer;
-use answers::Numbered;
+use answers::Placement;
 use layout::Layout;
 use protection::Protection;
 
@@ -27,7 +27,7 @@ pub fn read(
     ensures { λ r. ⌜ now (buffer .exit) ≡ filledBy r layout (now (image .entry)) first count (now (buffer .entry)) ⌝ }
 {
     let image_size = image.len() as u64;
-    let extent = judgement::read_extent(
+    let placement = judgement::read_extent(
         layout,
         protection,
         image_size,
@@ -35,12 +35,13 @@ pub fn read(
         count,
         buffer.len() as u64,
     );
-    match extent {
-        Numbered::Number(start) => {
+    match placement {
+        Placement::Offset(start) => {
             fill(image, start, buffer);
             Answer::Accepted
         }
-        Numbered::Refused(number) => Answer::Refused(number),
+        Placement::Refused(number) => Answer::Refused(number),
+        Placement::RefusedAt(number, sector) => Answer::RefusedAt(number, sector),
     }
 }
 
@@ -60,7 +61,7 @@ pub fn write(
 {
     let image_size = image.len() as u64;
     let buffer_size = buffer.len() as u64;
-    let extent = judgement::write_extent(
+    let placement = judgement::write_extent(
         layout,
         protection,
         locked,
@@ -69,12 +70,13 @@ pub fn write(
         count,
         buffer_size,
     );
-    match extent {
-        Numbered::Number(start) => {
+    match placement {
+        Placement::Offset(start) => {
             lay(image, start, buffer);
             Answer::Accepted
         }
-        Numbered::Refused(number) => Answer::Refused(number),
+        Placement::Refused(number) => Answer::Refused(number),
+        Placement::RefusedAt(number, sector) => Answer::RefusedAt(number, sector),
     }
 }
 

@@ -1,12 +1,20 @@
-// Answers with nothing in them but numbers (RULES.md, Refusals): of a read or a write, and of a call that
-// gives a number. Assumes nothing; no function has a `requires`.
+// Answers with nothing in them but numbers (RULES.md, Refusals): of a read or a write, of where it finds its
+// bytes, and of a call that gives a number. Assumes nothing; no function has a `requires`.
 ghost use mathlib.Core.Path.{_≡_};
-ghost use Rattle.answers.specs.Answers.{answerRefusal, numberedRefusal};
+ghost use Rattle.answers.specs.Answers.{answerRefusal, placementRefusal};
 
-// Accepted, or a refusal number.
+// Accepted, or a refusal number, or one with the first user sector that is in the way.
 pub enum Answer {
     Accepted,
     Refused(u8),
+    RefusedAt(u8, u64),
+}
+
+// The offset in the host of a call's first byte, or the call's refusal.
+pub enum Placement {
+    Offset(u64),
+    Refused(u8),
+    RefusedAt(u8, u64),
 }
 
 // A number, such as a sector's, a tweak's or an offset, or a refusal number.
@@ -22,15 +30,17 @@ pub fn refusal(answer: Answer) -> u8
     match answer {
         Answer::Accepted => 0,
         Answer::Refused(number) => number,
+        Answer::RefusedAt(number, _) => number,
     }
 }
 
-// The refusal number of an answer, 0 where it is a number.
-pub fn numbered_refusal(numbered: Numbered) -> u8
-    ensures { λ r. ⌜ r ≡ numberedRefusal numbered ⌝ }
+// The refusal number of a placement, 0 where it is an offset.
+pub fn placement_refusal(placement: Placement) -> u8
+    ensures { λ r. ⌜ r ≡ placementRefusal placement ⌝ }
 {
-    match numbered {
-        Numbered::Number(_) => 0,
-        Numbered::Refused(number) => number,
+    match placement {
+        Placement::Offset(_) => 0,
+        Placement::Refused(number) => number,
+        Placement::RefusedAt(number, _) => number,
     }
 }

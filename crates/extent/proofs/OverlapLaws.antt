@@ -1,11 +1,11 @@
--- What two extents share: the law that crates above read an overlap by.
+-- What two extents share, and what of one lies past an end: the laws that crates above read an overlap by.
 -- Assumes nothing.
 use Prim.Native.Nat.{ℕ, _+_, _-_, _≤_, _<_}
 use native.Mathlib.Omega.{arith}
-use mathlib.Core.{Path.{_≡_, refl}, Bool.{Bool, true, false, _&&_, cond}}
-use lib.Dec.{ltb}
-use borrow.Author.Tests.{ltb-true, ltb-false, le-leb, lt-ltb, le-ltb}
-use Rattle.extent.specs.{Extents.{has, larger, overlap}, declared.{Extent.Extent, Overlap.Overlap}}
+use mathlib.Core.{Path.{_≡_, refl, sym, ap}, Bool.{Bool, true, false, true≢false, _&&_, cond}}
+use lib.Dec.{leb, ltb}
+use borrow.Author.Tests.{leb-true, leb-false, ltb-true, ltb-false, le-leb, lt-leb, lt-ltb, le-ltb}
+use Rattle.extent.specs.{Extents.{has, larger, overlap, beyond}, declared.{Extent.Extent, Overlap.Overlap}}
 use Rattle.extent.specs.declared.Overlap.the-variants.{Apart, From}
 
 -- from the first sector on, what is left of the count tells the end
@@ -15,6 +15,14 @@ ltb-sub sector first count starts = go (ltb sector (first + count)) refl
     go : (t : Bool) → ltb sector (first + count) ≡ t → ltb (sector - first) count ≡ t
     go true e = lt-ltb (sector - first) count (omega (arith, ltb-true sector (first + count) e))
     go false e = le-ltb (sector - first) count (omega (arith, ltb-false sector (first + count) e))
+
+-- what is left before an end, past the count, tells the end too
+pub leb-rest : (first count end : ℕ) → count ≤ end → leb first (end - count) ≡ leb (first + count) end
+leb-rest first count end fits = go (leb (first + count) end) refl
+  where
+    go : (t : Bool) → leb (first + count) end ≡ t → leb first (end - count) ≡ t
+    go true e = le-leb first (end - count) (omega (arith, leb-true (first + count) end e))
+    go false e = lt-leb first (end - count) (omega (arith, leb-false (first + count) end e))
 
 -- a sector is an extent's
 pub record In (extent : Extent) (sector : ℕ) : Type 0 where
@@ -77,3 +85,27 @@ module _ (a b : Extent) where
           absurd (omega (arith, has-not b sector larger-right f, larger-least other (p .starts) (q .starts), q .ends))
       go false t e f = none λ other p q.
           absurd (omega (arith, has-not a sector larger-left e, larger-least other (p .starts) (q .starts), p .ends))
+
+-- something in the way is not nothing
+isApart : Overlap → Bool
+isApart Apart = true
+isApart (From sector) = false
+
+pub from-apart : {A : Type 0} (sector : ℕ) → From sector ≡ Apart → A
+unfolding isApart
+from-apart sector e = absurd (true≢false (sym (ap isApart e)))
+
+-- nothing of an extent lies past an end exactly where the extent ends by there
+module _ (extent : Extent) (end : ℕ) where
+  pub beyond-apart : beyond extent end ≡ Apart → extent .first + extent .count ≤ end
+  unfolding beyond
+  beyond-apart = go (leb (extent .first + extent .count) end) refl
+    where
+      go : (t : Bool) → leb (extent .first + extent .count) end ≡ t → cond t Apart (From (larger (extent .first) end)) ≡ Apart
+          → extent .first + extent .count ≤ end
+      go true e f = leb-true (extent .first + extent .count) end e
+      go false e f = from-apart (larger (extent .first) end) f
+
+  pub apart-beyond : extent .first + extent .count ≤ end → beyond extent end ≡ Apart
+  unfolding beyond
+  apart-beyond h = simp (le-leb (extent .first + extent .count) end h)

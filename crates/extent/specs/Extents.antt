@@ -1,4 +1,5 @@
--- Extents: which sectors one has, and the least that two share. What the contract of `extent::first_shared` cites. Assumes nothing.
+-- Extents: which sectors one has, the least that two share, and the first of one at or past an end. What the contracts of `extent` cite.
+-- Assumes nothing.
 use Prim.Native.Nat.{ℕ, _+_}
 use mathlib.Core.Bool.{Bool, _&&_, cond}
 use lib.Dec.{leb, ltb}
@@ -17,3 +18,7 @@ unfoldable pub overlap : Extent → Extent → Overlap
 overlap a b =
     let sector = larger (a .first) (b .first) in
     cond (has a sector && has b sector) (From sector) Apart
+
+-- the first sector of an extent at or past an end, unless the extent ends by there: the larger of its first one and the end
+unfoldable pub beyond : Extent → ℕ → Overlap
+beyond extent end = cond (leb (extent .first + extent .count) end) Apart (From (larger (extent .first) end))

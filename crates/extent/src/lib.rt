@@ -1,7 +1,9 @@
-// Extents, runs of sectors with a first one and a count, and the least sector that two of them share.
-// Assumes nothing; no function has a `requires`.
+// Extents, runs of sectors with a first one and a count: the least sector that two of them share, and the first
+// of one that lies past an end. No sum is made, so nothing wraps. Assumes nothing; no function has a `requires`.
 ghost use mathlib.Core.Path.{_≡_};
-ghost use Rattle.extent.specs.Extents.{has, larger, overlap};
+ghost use Prim.Native.Nat.{_+_};
+ghost use lib.Dec.{leb};
+ghost use Rattle.extent.specs.Extents.{has, larger, overlap, beyond};
 
 // So many sectors from the first one on. A caller may make one up, and its end may lie past 2^64.
 pub struct Extent {
@@ -9,7 +11,7 @@ pub struct Extent {
     pub count: u64,
 }
 
-// What two extents share: no sector, or some, of which this is the least.
+// What an extent has in its way: nothing, or something, of which this sector is the first.
 pub enum Overlap {
     Apart,
     From(u64),
@@ -29,7 +31,18 @@ pub fn first_shared(a: Extent, b: Extent) -> Overlap
     Overlap::From(sector)
 }
 
-// Whether an extent has a sector. Nothing is added, so nothing wraps.
+// The first sector of an extent at or past an end: the larger of its first one and the end, unless the
+// extent ends by there. An extent of no sector that starts past the end has its first one for that.
+pub fn first_past(extent: Extent, end: u64) -> Overlap
+    ensures { λ r. ⌜ r ≡ beyond extent end ⌝ }
+{
+    if ends_by(extent, end) {
+        return Overlap::Apart;
+    }
+    Overlap::From(larger(extent.first, end))
+}
+
+// Whether an extent has a sector.
 fn has(extent: Extent, sector: u64) -> bool
     ensures { λ r. ⌜ r ≡ has extent sector ⌝ }
 {
@@ -37,6 +50,16 @@ fn has(extent: Extent, sector: u64) -> bool
         return false;
     }
     sector - extent.first < extent.count
+}
+
+// Whether an extent ends by there.
+fn ends_by(extent: Extent, end: u64) -> bool
+    ensures { λ r. ⌜ r ≡ leb (extent .first + extent .count) end ⌝ }
+{
+    if end < extent.count {
+        return false;
+    }
+    extent.first <= end - extent.count
 }
 
 fn larger(a: u64, b: u64) -> u64

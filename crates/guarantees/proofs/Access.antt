@@ -1,33 +1,40 @@
 -- Reads and writes on any view keep the table of refusals and move sectors. Assumes nothing.
-use Prim.Native.Nat.{ℕ, _+_, _*_}
+use Prim.Native.Nat.{ℕ, _*_}
 use mathlib.Core.{Path.{_≡_, refl, sym, ap, _∙_}, Bool.cond, List.List}
 use lib.{Dec.{leb, eqb}, ListN.length}
-use borrow.Author.Tests.{leb-true}
 use Rattle.judgement.specs.Judging.{checked, readAnswer, writeAnswer}
 use Rattle.access.specs.Moving.{filledBy, writtenBy}
 use Rattle.judgement.proofs.JudgingLaws.{Passed, read-passed, write-passed}
-use Rattle.answers.specs.{Answers.isAccepted, declared.Answer.{Answer, the-variants.{Accepted, Refused}}}
+use Rattle.answers.specs.{Answers.isAccepted, declared.Answer.{Answer, the-variants.{Accepted, Refused, RefusedAt}}}
 use Rattle.sector_map.specs.SectorMap.{sectors}
 use Rattle.view.specs.{Outcomes.{viewRead, viewWrite, after}, declared.View.View}
 use Rattle.model.specs.Model.{bufferAfter, imageAfter}
 use Rattle.guarantees.specs.{Access.AccessesByTable, ReferenceModel.{isWrite, hostsOf, viewRules}}
-use Rattle.guarantees.specs.{SectorMap.Sound, Table.{later, tabled}}
+use Rattle.guarantees.specs.{SectorMap.Sound, Table.{check, later, tabled}}
 use Rattle.guarantees.proofs.ExtentLaws.{gather-extent, lay-extent}
 use Rattle.guarantees.proofs.RangeLaws.{lock-range}
 use Rattle.guarantees.proofs.Reflects.{holds-true, is-true, is-false}
-use Rattle.guarantees.proofs.TableLaws.{in-order-rest, lock-left}
+use Rattle.guarantees.proofs.TableLaws.{lock-left}
 use Rattle.guarantees.proofs.ViewLaws.{view-reflects}
+use Rattle.guarantees.proofs.WalkLaws.{end-tabled}
 
 -- what an acceptance leaves is alike where an acceptance says so
 accepted-alike : (answer : Answer) (x y other : List ℕ) → (answer ≡ Accepted → x ≡ y) → cond (isAccepted answer) x other ≡ cond (isAccepted answer) y other
 unfolding isAccepted
 accepted-alike Accepted x y other same = same refl
 accepted-alike (Refused number) x y other same = refl
+accepted-alike (RefusedAt number sector) x y other same = refl
 
 module _ (view : View) (image : List ℕ) (first count : ℕ) (buffer : List ℕ) where
   -- an accepted call's layout is sound
   passed-sound : Passed (view .layout) (view .protection) (length image) first count (length buffer) → Sound (view .layout)
   passed-sound p = holds-true (view-reflects view) (p .soundness) .layoutSound
+
+  -- the checks of the lengths, and then the rest
+  abbrev sizesChecked : Answer → Answer
+  sizesChecked rest =
+      check (Refused 13) (eqb (length image) (view .layout .«host_size»))
+      (check (Refused 14) (leb count 128) (check (Refused 15) (eqb (length buffer) (count * 512)) rest))
 
   pub accesses-by-table : AccessesByTable view image first count buffer
   unfolding readAnswer writeAnswer checked tabled later sectors after filledBy writtenBy viewRules isWrite hostsOf bufferAfter imageAfter
@@ -37,12 +44,12 @@ module _ (view : View) (image : List ℕ) (first count : ℕ) (buffer : List ℕ
       record {
         unsoundRead = λ f. rw (is-false reflects f);
         unsoundWrite = λ f. rw (is-false reflects f);
-        readTabled = λ s. rw (is-true reflects s);
+        readTabled = λ s.
+            rw (is-true reflects s) (ap sizesChecked (end-tabled layout (s .layoutSound) first count Accepted Accepted (λ inside. refl)));
         writeTabled = λ s.
             rw (is-true reflects s)
-            (in-order-rest (eqb (length image) (layout .«host_size»)) (leb count 128) (eqb (length buffer) (count * 512))
-            (leb (first + count) (sectors layout)) _ _ λ inside.
-            lock-range layout (s .layoutSound) first count (view .protection) (view .locked) (s .rangeSound) (leb-true _ _ inside));
+            (ap sizesChecked (end-tabled layout (s .layoutSound) first count _ _ λ inside.
+            lock-range layout (s .layoutSound) first count (view .protection) (view .locked) (s .rangeSound) inside));
         filled =
             accepted-alike (viewRead view (length image) first count (length buffer)) _ _ buffer λ e.
             let p = read-passed _ _ _ _ _ _ refl e in sym (gather-extent layout (passed-sound p) first count (p .inside) image);

@@ -4,7 +4,7 @@ use Prim.Native.Nat.{ℕ}
 use native.Mathlib.Omega.{arith}
 use mathlib.Core.{Path.{_≡_, refl, _∙_}, List.List}
 use lib.ListN.{length}
-use Rattle.answers.specs.Answers.{numberedRefusal, answerRefusal}
+use Rattle.answers.specs.Answers.{numberedRefusal, answerRefusal, answerSector, placementRefusal}
 use Rattle.layout.specs.Opened.{openedRefusal}
 use Rattle.opening.specs.Opening.{keysOffset, keysSize}
 use Rattle.opening.proofs.OpenedLaws.{opened-inside}
@@ -15,7 +15,7 @@ use Rattle.protection.specs.declared.Protection.{Protection, the-variants.{Unpr
 use Rattle.boundary_numbers.specs.BoundaryNumbers.{layoutNumbers, layoutFrom, protectionNumbers, protectionFrom, viewNumbers, viewFrom}
 use Rattle.boundary_numbers.specs.BoundaryNumbers.{numberedLeft, openedLeft, viewedLeft, blockLeft}
 use Rattle.boundary_opening.specs.BoundaryOpening.{keysLeft}
-use Rattle.boundary_access.specs.BoundaryAccess.{viewLeft}
+use Rattle.boundary_access.specs.BoundaryAccess.{viewLeft, sectorLeft, offsetLeft}
 use Rattle.guarantees.specs.Boundary.{TellsNumbers, ReturnsZero, OrdersNumbers, storedProtection, StoresAnswers}
 use Rattle.guarantees.proofs.BoundaryNumbers.{view-of-numbers, set-last}
 use Rattle.guarantees.proofs.BoundaryZero.{located-zero, opened-zero, header-zero, host-sector-zero, user-sector-zero}
@@ -23,7 +23,7 @@ use Rattle.guarantees.proofs.BoundaryZero.{plain-view-zero, protected-v
 use Rattle.guarantees.proofs.Reflects.{is-false, reflects-eqb}
 
 pub tells-numbers : TellsNumbers
-unfolding openedRefusal numberedRefusal viewedRefusal writtenRefusal answerRefusal
+unfolding openedRefusal numberedRefusal viewedRefusal writtenRefusal answerRefusal placementRefusal
 tells-numbers =
     record {
       openedAccepted = λ layout. refl;
@@ -36,6 +36,10 @@ tells-numbers =
       headerRefused = λ number. refl;
       accessAccepted = refl;
       accessRefused = λ number. refl;
+      accessRefusedAt = λ number sector. refl;
+      extentAccepted = λ offset. refl;
+      extentRefused = λ number. refl;
+      extentRefusedAt = λ number sector. refl;
     }
 
 pub returns-zero : ReturnsZero
@@ -65,7 +69,7 @@ protection-stored Unprotected = refl
 protection-stored (Protected first end) = refl
 
 pub stores-answers : (before : List ℕ) → StoresAnswers before
-unfolding numberedLeft openedLeft keysLeft keysOffset keysSize blockLeft viewedLeft viewLeft layoutNumbers viewNumbers
+unfolding numberedLeft openedLeft keysLeft keysOffset keysSize blockLeft viewedLeft viewLeft offsetLeft sectorLeft answerSector layoutNumbers viewNumbers
 stores-answers before =
     record {
       layout = λ layout. refl;
@@ -80,6 +84,12 @@ stores-answers before =
       view = λ view. rw (protection-stored (view .protection));
       viewBack = view-of-numbers;
       noView = λ number. refl;
-      closes = λ image first count buffer written left h call. call .locks ∙ set-last before 11 1 h;
-      sameView = λ image first count buffer written left number f call. call .locks ∙ rw (is-false (reflects-eqb number 18) f);
+      closes = λ image first count buffer other written left sector h call. call .locks ∙ set-last before 11 1 h;
+      sameView = λ image first count buffer other written left sector number f call. call .locks ∙ rw (is-false (reflects-eqb number 18) f);
+      offset = λ offset. refl;
+      noOffset = λ number. refl;
+      noOffsetAt = λ number sector. refl;
+      sector = λ number sector other after told. told .names;
+      noSector = λ number other after told. told .names;
+      acceptedSector = λ other after told. told .names;
     }

@@ -1,21 +1,23 @@
 -- The number of an answer is 0 exactly where the answer is an acceptance: no call is refused by 0.
 -- Assumes nothing.
-use Prim.Native.Nat.{ℕ, suc, _+_, _<_}
+use Prim.Native.Nat.{ℕ, _+_, _<_}
 use native.Mathlib.Omega.{arith}
 use mathlib.Core.{Path.{_≡_, refl, sym, ap, subst, _∙_}, Logic.{_↔_, ⊎-elim}, Bool.{Bool, true, false, _&&_, cond}, List.List}
-use lib.{Dec.{leb, ltb}, ListN.length}
+use lib.{Dec.{leb, ltb, eqb}, ListN.length}
+use borrow.Author.Tests.{eqb-false}
 use Rattle.answers.specs.{Answers.{line, answerRefusal, numberedRefusal}, declared.{Answer.Answer, Numbered.the-variants.Number}}
-use Rattle.answers.proofs.AnswerLaws.{refused-accepted}
+use Rattle.answers.proofs.AnswerLaws.{refused-accepted, refused-at-accepted}
 use Rattle.layout.specs.{Opened.openedRefusal, Rules.{hostSizeRule, sound}, declared.{Layout.Layout, Opened.Opened}}
 use Rattle.layout.specs.declared.Opened.the-variants.{Accepted, Refused}
 use Rattle.locations.specs.Locations.{codeRule, located}
 use Rattle.opening.specs.Opening.{searched, opened}
 use Rattle.sector_map.specs.SectorMap.{sectors, firstSector, hostSector, userSector}
-use Rattle.judgement.proofs.JudgingLaws.{read-holds, write-holds}
-use Rattle.protection.specs.Protection.{nests, pairAnswer}
+use Rattle.judgement.proofs.JudgingLaws.{namesSector, names-some, read-holds, write-holds}
+use Rattle.protection.specs.Protection.{nests, paired}
 use Rattle.view.specs.{Outcomes.{viewRead, viewWrite}, declared.View.View}
 use Rattle.making.specs.{Views.{madeBy, plainView, protectedView, viewedRefusal}, declared.Viewed.the-variants.Made}
 use Rattle.answers.specs.declared.Answer.the-variants as access
+use Rattle.protection.specs.declared.Pairing.the-variants as pairing
 use Rattle.header_writing.specs.{HeaderWriting.writtenRefusal, declared.Written.Written}
 use Rattle.header_writing.specs.declared.Written.the-variants as writing
 use Rattle.header_writing.proofs.AnswerLaws.{refused-done}
@@ -65,11 +67,11 @@ unfolding plainView viewedRefusal
 plain-view-zero layout = zero-test (sound layout) _ _ (λ view. refl) (omega arith) (zero-accepted _ (λ view. refl))
 
 pub protected-view-zero : (outer hiddenLayout : Layout) → ZeroAccepts viewedRefusal Made (protectedView outer hiddenLayout)
-unfolding protectedView pairAnswer madeBy viewedRefusal
+unfolding protectedView paired madeBy viewedRefusal
 protected-view-zero outer hiddenLayout = go (sound outer && sound hiddenLayout) (nests outer hiddenLayout) _
   where
     go : (first second : Bool) (view : View)
-        → ZeroAccepts viewedRefusal Made (madeBy (cond first (cond second access.Accepted (access.Refused 12)) (access.Refused 11)) view)
+        → ZeroAccepts viewedRefusal Made (madeBy (cond first (cond second pairing.Nested (pairing.Refused 12)) (pairing.Refused 11)) view)
     go true true view = zero-accepted _ (λ view. refl)
     go true false view = zero-refused _ (λ view. refl) (omega arith)
     go false second view = zero-refused _ (λ view. refl) (omega arith)
@@ -126,13 +128,17 @@ accepted-tells : ZeroTells access.Accepted
 unfolding answerRefusal
 accepted-tells = (λ e. refl, λ e. refl)
 
-refused-tells : (number : ℕ) → ZeroTells (access.Refused (suc number))
+refused-tells : (number : ℕ) → eqb number 0 ≡ false → namesSector number ≡ false → ZeroTells (access.Refused number)
 unfolding answerRefusal
-refused-tells number = (λ e. absurd (omega arith), refused-accepted (suc number))
+refused-tells number some other = (λ e. absurd (eqb-false number 0 some e), refused-accepted number)
+
+refused-at-tells : (number sector : ℕ) → namesSector number ≡ true → ZeroTells (access.RefusedAt number sector)
+unfolding answerRefusal
+refused-at-tells number sector names = (λ e. absurd (eqb-false number 0 (names-some number names) e), refused-at-accepted number sector)
 
 pub read-zero : (view : View) (imageSize first count bufferSize : ℕ) → ZeroTells (viewRead view imageSize first count bufferSize)
-read-zero view = read-holds ZeroTells accepted-tells refused-tells (view .layout) (view .protection)
+read-zero view = read-holds ZeroTells accepted-tells refused-tells refused-at-tells (view .layout) (view .protection)
 
 pub write-zero : (view : View) (imageSize first count bufferSize : ℕ) → ZeroTells (viewWrite view imageSize first count bufferSize)
 write-zero view imageSize first count bufferSize =
-    write-holds ZeroTells accepted-tells refused-tells (view .layout) (view .protection) imageSize first count bufferSize (view .locked)
+    write-holds ZeroTells accepted-tells refused-tells refused-at-tells (view .layout) (view .protection) imageSize first count bufferSize (view .locked)

@@ -13,6 +13,7 @@ pub mod FirstAcceptedLaws
 pub mod FoundLaws
 pub mod FromHeaders
 pub mod HeaderLaws
+pub mod InTheWay
 pub mod Interleaving
 pub mod JudgementLaws
 pub mod Judging
@@ -37,6 +38,7 @@ pub mod ToldLaws
 pub mod ViewLaws
 pub mod ViewRulesLaws
 pub mod Views
+pub mod WalkLaws
 pub mod WritesAgain
 pub mod WritesExactly
 pub mod WritingLaws

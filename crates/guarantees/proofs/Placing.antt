@@ -1,19 +1,19 @@
 -- Where reads and writes find their bytes, and that a caller which moves them itself reads and writes. Assumes nothing.
-use Prim.Native.Nat.{ℕ, suc, _*_}
+use Prim.Native.Nat.{ℕ, _*_}
 use native.Mathlib.Omega.{arith}
-use mathlib.Core.{Path.{_≡_, refl, sym, ap, _∙_}, List.List}
+use mathlib.Core.{Path.{_≡_, refl, sym, ap, _∙_}, Bool.{true, false}, List.List}
 use lib.{Dec.eqb, ListN.{length, take, drop}}
-use borrow.Author.Tests.{ne-eqb}
-use Rattle.answers.specs.{Answers.{isAccepted, answerRefusal}, declared.Answer.{Answer, the-variants.{Accepted, Refused}}}
+use Rattle.answers.specs.{Answers.{isAccepted, answerRefusal}, declared.Answer.{Answer, the-variants.{Accepted, Refused, RefusedAt}}}
 use Rattle.layout.specs.declared.Layout.{Layout}
-use Rattle.judgement.specs.Offsets.{extentStart, offsetBy}
-use Rattle.judgement.proofs.JudgingLaws.{read-passed, write-passed, passed-moves, read-holds, write-holds}
-use Rattle.judgement.proofs.OffsetLaws.{offset-given, offset-refused, refused-offset}
+use Rattle.judgement.specs.Offsets.{extentStart, placedBy}
+use Rattle.judgement.proofs.JudgingLaws.{read-passed, write-passed, passed-moves, namesSector, names-some, read-holds, write-holds}
+use Rattle.judgement.proofs.PlacementLaws.{placed-accepted, placed-refused, placed-refused-at, refused-placed, refused-at-placed}
 use Rattle.fields.specs.Bytes.{overlay}
 use Rattle.access.specs.Moving.{filledBy, writtenBy}
 use Rattle.access.proofs.MovingLaws.{filled-accepted, written-accepted}
-use Rattle.view.specs.{Outcomes.{viewRead, viewWrite, after, readPlaced, writePlaced}, declared.View.View}
-use Rattle.boundary_numbers.specs.BoundaryNumbers.{viewFrom, numberedLeft}
+use Rattle.view.specs.{Outcomes.{after, readPlaced, writePlaced}, declared.View.View}
+use Rattle.boundary_numbers.specs.BoundaryNumbers.{viewFrom}
+use Rattle.boundary_access.specs.BoundaryAccess.{offsetLeft}
 use Rattle.guarantees.specs.Placing.{taken, stored, PlacesExtents, PlacesNumbers}
 use Rattle.guarantees.proofs.TableLaws.{lock-left}
 
@@ -22,16 +22,18 @@ unfolding readPlaced writePlaced after extentStart overlay
 places-extents view image first count buffer =
     let layout = view .layout in
     record {
-      readRefused = λ number. (offset-refused layout first refl, λ e. sym (refused-offset layout first e));
-      writeRefused = λ number. (offset-refused layout first refl, λ e. sym (refused-offset layout first e));
+      readRefused = λ number. (placed-refused layout first refl, λ e. sym (refused-placed layout first e));
+      readRefusedAt = λ number sector. (placed-refused-at layout first refl, λ e. sym (refused-at-placed layout first e));
+      writeRefused = λ number. (placed-refused layout first refl, λ e. sym (refused-placed layout first e));
+      writeRefusedAt = λ number sector. (placed-refused-at layout first refl, λ e. sym (refused-at-placed layout first e));
       readTaken = λ offset e.
-          let given = offset-given layout first refl e in
+          let given = placed-accepted layout first refl e in
           let passed = read-passed _ _ _ _ _ _ refl (given .0) in (
             record { starts = given .1; ends = omega (arith, given .1, passed-moves _ _ _ _ _ _ passed .1) },
             filled-accepted _ layout image first buffer count offset (given .0) (given .1) (passed .bufferWhole),
           );
       writeStored = λ offset e.
-          let given = offset-given layout first refl e in
+          let given = placed-accepted layout first refl e in
           let passed = write-passed _ _ _ _ _ _ _ refl (given .0) in (
             record { starts = given .1; ends = omega (arith, given .1, passed-moves _ _ _ _ _ _ passed .1) },
             written-accepted _ layout image first buffer offset (given .0) (given .1),
@@ -44,7 +46,7 @@ places-extents view image first count buffer =
 module _ (layout : Layout) (image : List ℕ) (first : ℕ) (buffer before : List ℕ) where
   -- the offset that an answer leaves
   abbrev leaves : Answer → List ℕ
-  leaves answer = numberedLeft (offsetBy answer layout first) before
+  leaves answer = offsetLeft (placedBy answer layout first) before
 
   -- moved by the number and the offset, the bytes are those that the call moves, and a refusal leaves the offset
   record Moves (count : ℕ) (answer : Answer) : Type 0 where
@@ -54,7 +56,7 @@ module _ (layout : Layout) (image : List ℕ) (first : ℕ) (buffer before : Lis
     same : (answerRefusal answer ≡ 0 → ⊥) → leaves answer ≡ before
 
   moves-accepted : (count : ℕ) → Moves count Accepted
-  unfolding taken stored numberedLeft offsetBy filledBy writtenBy isAccepted answerRefusal overlay
+  unfolding taken stored offsetLeft placedBy filledBy writtenBy isAccepted answerRefusal overlay
   moves-accepted count =
       record {
         takes = λ whole. ap (λ (n : ℕ). take n (drop (extentStart layout first) image)) (whole refl);
@@ -62,30 +64,33 @@ module _ (layout : Layout) (image : List ℕ) (first : ℕ) (buffer before : Lis
         same = λ f. absurd (f refl);
       }
 
-  moves-refused : (count number : ℕ) → Moves count (Refused (suc number))
-  unfolding taken stored numberedLeft offsetBy filledBy writtenBy isAccepted answerRefusal
-  moves-refused count number =
-      let other = ne-eqb (suc number) 0 (λ e. omega arith) in
-      record { takes = λ whole. rw other; stores = rw other; same = λ f. refl }
+  moves-refused : (count number : ℕ) → eqb number 0 ≡ false → namesSector number ≡ false → Moves count (Refused number)
+  unfolding taken stored offsetLeft placedBy filledBy writtenBy isAccepted answerRefusal
+  moves-refused count number some other = record { takes = λ whole. rw some; stores = rw some; same = λ f. refl }
 
-pub places-numbers : (view image : List ℕ) (first count : ℕ) (buffer before : List ℕ) → PlacesNumbers view image first count buffer before
-places-numbers view image first count buffer before =
+  moves-refused-at : (count number sector : ℕ) → namesSector number ≡ true → Moves count (RefusedAt number sector)
+  unfolding taken stored offsetLeft placedBy filledBy writtenBy isAccepted answerRefusal
+  moves-refused-at count number sector names =
+      let some = names-some number names in record { takes = λ whole. rw some; stores = rw some; same = λ f. refl }
+
+pub places-numbers : (view image : List ℕ) (first count : ℕ) (buffer before other : List ℕ) → PlacesNumbers view image first count buffer before other
+places-numbers view image first count buffer before other =
     let told = viewFrom view in
     let layout = told .layout in
-    let read = viewRead told (length image) first count (length buffer) in
-    let write = viewWrite told (length image) first count (length buffer) in
     let reads = read-holds (Moves layout image first buffer before count) (moves-accepted layout image first buffer before count)
-    (moves-refused layout image first buffer before count) layout (told .protection) (length image) first count (length buffer) in
+    (moves-refused layout image first buffer before count) (moves-refused-at layout image first buffer before count) layout (told .protection)
+    (length image) first count (length buffer) in
     let writes = write-holds (Moves layout image first buffer before count) (moves-accepted layout image first buffer before count)
-    (moves-refused layout image first buffer before count) layout (told .protection) (length image) first count (length buffer) (told .locked) in
+    (moves-refused layout image first buffer before count) (moves-refused-at layout image first buffer before count) layout (told .protection)
+    (length image) first count (length buffer) (told .locked) in
     record {
-      isRead = λ number offset call.
+      isRead = λ number offset sector call.
           record {
-            returns = call .returns;
-            fills = rw (call .returns, call .places) (reads .takes λ e. read-passed _ _ _ _ _ _ refl e .bufferWhole);
+            tells = call .tells;
+            fills = rw (call .tells .returns, call .places) (reads .takes λ e. read-passed _ _ _ _ _ _ refl e .bufferWhole);
           };
-      isWrite = λ number offset left call.
-          record { returns = call .returns; writes = rw (call .returns, call .places) (writes .stores); locks = call .locks };
-      readSame = λ number offset f call. call .places ∙ reads .same (λ e. f (call .returns ∙ e));
-      writeSame = λ number offset left f call. call .places ∙ writes .same (λ e. f (call .returns ∙ e));
+      isWrite = λ number offset left sector call.
+          record { tells = call .tells; writes = rw (call .tells .returns, call .places) (writes .stores); locks = call .locks };
+      readSame = λ number offset sector f call. call .places ∙ reads .same (λ e. f (call .tells .returns ∙ e));
+      writeSame = λ number offset left sector f call. call .places ∙ writes .same (λ e. f (call .tells .returns ∙ e));
     }

@@ -10,7 +10,7 @@ use Rattle.protection.specs.declared.Protection.{Protection}
 use Rattle.model.specs.Model.{State, stateWith, Reply, judged, bufferAfter, imageAfter, reply, next}
 use Rattle.model.proofs.RunLaws.{Agrees, Models}
 use Rattle.guarantees.specs.Interleaving.{KeepsContract, Step}
-use Rattle.guarantees.specs.ReferenceModel.{isWrite, anyInRange, hostsOf, lockLeft, viewRules}
+use Rattle.guarantees.specs.ReferenceModel.{isWrite, firstProtected, lockLeft, viewRules}
 use Rattle.guarantees.specs.{Table.{Operation, reads, writes, Call}, Views.SoundView}
 use Rattle.guarantees.proofs.Access.{accesses-by-table}
 use Rattle.guarantees.proofs.TableLaws.{read-lock}
@@ -34,7 +34,7 @@ module _ (layout : Layout) (protection : Protection) where
         let back = claim .readBack (record { view = after .held; answer = given .answer }) (given .buffer) (kept .0) in
         let told = back .0 ∙ tabled in
         let filled = back .2 ∙ claim .filled ∙ ap (λ (answer : Answer). bufferAfter rules call answer image) tabled in
-        let unlocked = read-lock layout first count buffer locked (anyInRange protection (hostsOf layout call)) (length image) in
+        let unlocked = read-lock layout first count buffer locked (firstProtected layout protection first count) (length image) in
         let views = back .1 ∙ ap viewWith (sym unlocked) in
         (λ i. record { answer = told i; buffer = filled i }, λ i. record { image = kept .1 i; held = views i })
     agrees writes first count buffer model given after kept =

@@ -10,7 +10,7 @@ use Rattle.model.specs.Sides.{Side, outer, hidden}
 use Rattle.model.proofs.Lawful.{Every, Fitting, Lawful}
 use Rattle.model.proofs.Sameness.{Apart}
 use Rattle.guarantees.specs.Interleaving.{sideLayout, sideProtection, sideRules}
-use Rattle.guarantees.specs.{ReferenceModel.{inRange, anyInRange, hostsOf, viewRules}, SectorMap.Sound}
+use Rattle.guarantees.specs.{ReferenceModel.{inRange, firstProtected, hostsOf, viewRules}, SectorMap.Sound}
 use Rattle.guarantees.specs.{Table.Call, Views.area}
 use Rattle.guarantees.proofs.CoversLaws.{consecutive, length-consecutive, every-consecutive, distinct-consecutive}
 use Rattle.guarantees.proofs.ExtentLaws.{covers-extent}
@@ -56,7 +56,7 @@ module _ (layout : Layout) (protection : Protection) (s : Sound layout) where
   view-lawful =
       record {
         fitting = λ call locked size e.
-            call-fitting layout s size call (tabled-accepted layout call locked (anyInRange protection (hostsOf layout call)) size e .0);
+            call-fitting layout s size call (tabled-accepted layout call locked (firstProtected layout protection (call .first) (call .count)) size e .0);
         storedSized = λ call host bytes size. size;
         shownSized = λ call host bytes size. size;
       }
@@ -68,14 +68,15 @@ module _ (outerLayout hiddenLayout : Layout) (outerSound : Sound outerLayout) (h
   sides-lawful hidden = view-lawful hiddenLayout (sideProtection outerLayout hiddenLayout hidden) hiddenSound
 
   pub sides-apart : Apart (sideRules outerLayout hiddenLayout) (inRange (area hiddenLayout))
-  unfolding sideRules sideLayout sideProtection viewRules
+  unfolding sideRules sideLayout sideProtection viewRules hostsOf
   sides-apart =
       record {
         outerWrites = λ call locked size e isWrite.
-            let touch = anyInRange (area hiddenLayout) (hostsOf outerLayout call) in
-            let kept = tabled-accepted outerLayout call locked touch size e .1 in
-            each-outside (area hiddenLayout) (hostsOf outerLayout call) (later-untouched (call .operation) locked touch isWrite kept);
+            let touched = firstProtected outerLayout (area hiddenLayout) (call .first) (call .count) in
+            let kept = tabled-accepted outerLayout call locked touched size e .1 in
+            each-outside outerLayout (area hiddenLayout) (call .first) (call .count) (later-untouched (call .operation) locked touched isWrite kept);
         hiddenCalls = λ call locked size e.
             each-inside hiddenLayout hiddenSound size call
-            (tabled-accepted hiddenLayout call locked (anyInRange (sideProtection outerLayout hiddenLayout hidden) (hostsOf hiddenLayout call)) size e .0);
+            (tabled-accepted hiddenLayout call locked
+            (firstProtected hiddenLayout (sideProtection outerLayout hiddenLayout hidden) (call .first) (call .count)) size e .0);
       }

@@ -1,7 +1,7 @@
 -- Views are made from sound layouts that nest, and from no others, and they are sound.
 -- Assumes nothing.
 use Rattle.layout.specs.declared.Layout.{Layout}
-use Rattle.protection.specs.Protection.{areaEnd, pairAnswer}
+use Rattle.protection.specs.Protection.{areaEnd, paired}
 use Rattle.making.specs.Views.{plainOf, protectedOf, madeBy, plainView, protectedView}
 use Rattle.guarantees.specs.Views.{MakesViews}
 use Rattle.guarantees.proofs.Reflects.{is-true, is-false, reflects-and}
@@ -9,7 +9,7 @@ use Rattle.guarantees.proofs.SoundLaws.{sound-reflects}
 use Rattle.guarantees.proofs.NestLaws.{nests-reflects, plain-sound, protecting-sound}
 
 pub makes-views : (outer hiddenLayout : Layout) → MakesViews outer hiddenLayout
-unfolding plainView protectedView plainOf protectedOf madeBy pairAnswer areaEnd
+unfolding plainView protectedView plainOf protectedOf madeBy paired areaEnd
 makes-views outer hiddenLayout =
     record {
       plainMade = λ s. simp (is-true (sound-reflects outer) s);

@@ -3,7 +3,7 @@
 use Prim.Native.Nat.{ℕ, _+_, _*_, _≤_}
 use mathlib.Core.{Path._≡_, Logic._↔_, Bool.{not, cond}, List.{List, [], _∷_, _++_}}
 use lib.{Dec.eqb, ListN.{length, take}}
-use Rattle.answers.specs.Answers.{numberedRefusal, answerRefusal}
+use Rattle.answers.specs.Answers.{numberedRefusal, answerRefusal, placementRefusal}
 use Rattle.layout.specs.Opened.{openedRefusal}
 use Rattle.layout.specs.declared.Layout.{Layout}
 use Rattle.layout.specs.declared.Opened.the-variants as opening
@@ -16,12 +16,13 @@ use Rattle.answers.specs.declared.Numbered.the-variants as numbered
 use Rattle.view.specs.Outcomes.{viewRead, viewWrite, ReadPost, WritePost}
 use Rattle.making.specs.Views.{plainView, protectedView, viewedRefusal}
 use Rattle.answers.specs.declared.Answer.the-variants as access
+use Rattle.answers.specs.declared.Placement.the-variants as placing
 use Rattle.view.specs.declared.{Outcome.Outcome, View.View}
 use Rattle.protection.specs.declared.Protection.{Protection, the-variants.{Unprotected, Protected}}
 use Rattle.making.specs.declared.Viewed.the-variants as making
 use Rattle.boundary_numbers.specs.BoundaryNumbers.{layoutFrom, viewFrom, numberedLeft, openedLeft, viewedLeft, blockLeft}
 use Rattle.boundary_opening.specs.BoundaryOpening.{keysLeft}
-use Rattle.boundary_access.specs.BoundaryAccess.{WriteCall}
+use Rattle.boundary_access.specs.BoundaryAccess.{offsetLeft, Tells, WriteCall}
 use Rattle.guarantees.specs.Writing.{Request, answerTo}
 
 -- every refusal is told by its own number, and every acceptance by 0
@@ -36,6 +37,10 @@ pub record TellsNumbers : Type 0 where
   pub headerRefused : (number : ℕ) → writtenRefusal (writing.Refused number) ≡ number
   pub accessAccepted : answerRefusal access.Accepted ≡ 0
   pub accessRefused : (number : ℕ) → answerRefusal (access.Refused number) ≡ number
+  pub accessRefusedAt : (number sector : ℕ) → answerRefusal (access.RefusedAt number sector) ≡ number
+  pub extentAccepted : (offset : ℕ) → placementRefusal (placing.Offset offset) ≡ 0
+  pub extentRefused : (number : ℕ) → placementRefusal (placing.Refused number) ≡ number
+  pub extentRefusedAt : (number sector : ℕ) → placementRefusal (placing.RefusedAt number sector) ≡ number
 
 -- an answer's number is 0 exactly where the answer is an acceptance
 pub record ZeroAccepts {A R : Type 0} (number : R → ℕ) (accepted : A → R) (answer : R) : Type 0 where
@@ -93,7 +98,8 @@ abbrev pub storedProtection : Protection → List ℕ
 storedProtection Unprotected = 0 ∷ 0 ∷ 0 ∷ []
 storedProtection (Protected first end) = 1 ∷ first ∷ end ∷ []
 
--- what each call stores: on an acceptance the answer's own numbers, on a refusal nothing, but that a write's 18 closes the view's lock
+-- what each call stores: on an acceptance the answer's own numbers, on a refusal nothing, but for the sector in the way, and that a
+-- write's 18 closes the view's lock
 pub record StoresAnswers (before : List ℕ) : Type 0 where
   pub layout : (layout : Layout) → openedLeft (opening.Accepted layout) before ≡ storedLayout layout
   pub noLayout : (number : ℕ) → openedLeft (opening.Refused number) before ≡ before
@@ -112,7 +118,15 @@ pub record StoresAnswers (before : List ℕ) : Type 0 where
   pub viewBack : (view : View) → viewFrom (viewedLeft (making.Made view) before) ≡ view
   pub noView : (number : ℕ) → viewedLeft (making.Refused number) before ≡ before
   -- a write's numbers: 18 closes the lock, and any other number leaves them as they were
-  pub closes : (image : List ℕ) (first count : ℕ) (buffer written left : List ℕ) → length before ≡ 12
-      → WriteCall before image first count buffer 18 written left → left ≡ take 11 before ++ (1 ∷ [])
-  pub sameView : (image : List ℕ) (first count : ℕ) (buffer written left : List ℕ) (number : ℕ) → (number ≡ 18 → ⊥)
-      → WriteCall before image first count buffer number written left → left ≡ before
+  pub closes : (image : List ℕ) (first count : ℕ) (buffer other written left sector : List ℕ) → length before ≡ 12
+      → WriteCall before image first count buffer other 18 written left sector → left ≡ take 11 before ++ (1 ∷ [])
+  pub sameView : (image : List ℕ) (first count : ℕ) (buffer other written left sector : List ℕ) (number : ℕ) → (number ≡ 18 → ⊥)
+      → WriteCall before image first count buffer other number written left sector → left ≡ before
+  -- an extent's first byte
+  pub offset : (offset : ℕ) → offsetLeft (placing.Offset offset) before ≡ offset ∷ []
+  pub noOffset : (number : ℕ) → offsetLeft (placing.Refused number) before ≡ before
+  pub noOffsetAt : (number sector : ℕ) → offsetLeft (placing.RefusedAt number sector) before ≡ before
+  -- the sector that a refusal names, and nothing where an answer names none
+  pub sector : (number sector other : ℕ) (after : List ℕ) → Tells (access.RefusedAt number sector) before other after → after ≡ sector ∷ []
+  pub noSector : (number other : ℕ) (after : List ℕ) → Tells (access.Refused number) before other after → after ≡ before
+  pub acceptedSector : (other : ℕ) (after : List ℕ) → Tells access.Accepted before other after → after ≡ before

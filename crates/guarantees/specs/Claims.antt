@@ -6,8 +6,8 @@ use Rattle.layout.specs.declared.Layout.{Layout}
 use Rattle.protection.specs.declared.Protection.{Protection}
 use Rattle.view.specs.declared.View.{View}
 use Rattle.guarantees.specs.{Access.AccessesByTable, Boundary.{TellsNumbers, ReturnsZero, OrdersNumbers, StoresAnswers}}
-use Rattle.guarantees.specs.{BoundaryRuns.{Numbers, CarriesRuns, BeginsRuns}, Extents.SharesLeast}
-use Rattle.guarantees.specs.{FromHeaders.FromHeaders, Interleaving.Demand3, Judging.{KeepsRules, JudgesExactly, GivesKeys}}
+use Rattle.guarantees.specs.{BoundaryRuns.{Numbers, CarriesRuns, BeginsRuns}, Extents.{SharesLeast, EndsBy}}
+use Rattle.guarantees.specs.{FromHeaders.FromHeaders, InTheWay.NamesSectors, Interleaving.Demand3, Judging.{KeepsRules, JudgesExactly, GivesKeys}}
 use Rattle.guarantees.specs.{MapProgram.{ReadsInput, PrintsLines}, Numbers.{SpellsNumbers, ChecksBytes}}
 use Rattle.guarantees.specs.{Opening.{OpensExactlyWhen, LocatesHeaders}, Parts.KeepsParts, Placing.{PlacesExtents, PlacesNumbers}}
 use Rattle.guarantees.specs.{SectorMap.{MapsExactly, OpenedIsSound}, Views.MakesViews}
@@ -19,6 +19,7 @@ pub record Claims : Type 0 where
   pub checksum : ChecksBytes
   pub rules : KeepsRules
   pub extents : (a b : Extent) → SharesLeast a b
+  pub ends : (extent : Extent) (end : ℕ) → EndsBy extent end
   -- demand 2: headers, opening, the writing of headers, and the sector map
   pub judges : (kind hostSize index : ℕ) (h : List ℕ) → JudgesExactly kind hostSize index h
   pub locates : (hostSize : ℕ) → LocatesHeaders hostSize
@@ -34,6 +35,7 @@ pub record Claims : Type 0 where
   pub views : (outer hiddenLayout : Layout) → MakesViews outer hiddenLayout
   pub parts : (layout hiddenLayout : Layout) (protection : Protection) → KeepsParts layout hiddenLayout protection
   pub accesses : (view : View) (image : List ℕ) (first count : ℕ) (buffer : List ℕ) → AccessesByTable view image first count buffer
+  pub named : (view : View) (image : List ℕ) (first count : ℕ) (buffer : List ℕ) → NamesSectors view image first count buffer
   pub placed : (view : View) (image : List ℕ) (first count : ℕ) (buffer : List ℕ) → PlacesExtents view image first count buffer
   -- demand 3, and from two headers to it
   pub demand3 : (outerLayout hiddenLayout : Layout) → Demand3 outerLayout hiddenLayout
@@ -47,7 +49,8 @@ pub record Claims : Type 0 where
   pub stored : (before : List ℕ) → StoresAnswers before
   pub begun : (outerLayout hiddenLayout : Layout) → BeginsRuns outerLayout hiddenLayout
   pub carried : (numbers : Numbers) → CarriesRuns numbers
-  pub placedNumbers : (view image : List ℕ) (first count : ℕ) (buffer before : List ℕ) → PlacesNumbers view image first count buffer before
+  pub placedNumbers : (view image : List ℕ) (first count : ℕ) (buffer offsetBefore sectorBefore : List ℕ)
+      → PlacesNumbers view image first count buffer offsetBefore sectorBefore
   -- the map program
   pub input : ReadsInput
   pub output : PrintsLines

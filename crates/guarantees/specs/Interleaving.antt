@@ -10,7 +10,7 @@ use Rattle.protection.specs.declared.Protection.{Protection, the-variants.Unpro
 use Rattle.view.specs.declared.View.{View}
 use Rattle.model.specs.{Model.{Rules, State, stateWith, Reply, replies, final, contents}, Runs.Run, Sectors.{sectorAt, gather}}
 use Rattle.model.specs.Sides.{Side, outer, hidden, Turn, Interleaves, Both, at, eachWith, OnSide, sided, bySide, unprotected}
-use Rattle.guarantees.specs.{ReferenceModel.{inRange, hostsOf, viewRules}, SectorMap.Sound}
+use Rattle.guarantees.specs.{InTheWay.NamesFirst, ReferenceModel.{inRange, hostsOf, viewRules}, SectorMap.Sound}
 use Rattle.guarantees.specs.{Table.{Operation, reads, writes, Call}, Views.{area, plain, protecting, Nested}}
 
 -- a call that keeps its contract, by what it does: a read leaves the image, a write its buffer
@@ -92,6 +92,12 @@ module _ (outerLayout hiddenLayout : Layout) where
           → turn .call .operation ≡ reads → given .answer ≡ Accepted
           → given .buffer
           ≡ gather (λ host. contents bothRules host before answers (sectorAt host (model .image))) (hostsOf (sideLayout (turn .side)) (turn .call))
+      -- a refused call names the first sector in its way: of 16 the larger of u and V/512, of 18, which only outer calls are refused by, the
+      -- larger of u and the hidden volume's first sector as the outer view counts it
+      pub inTheWay : (before : List (Turn Call)) (turn : Turn Call) (after : List (Turn Call)) (answers : List (Reply Answer)) (given : Reply Answer)
+          (middle next : State (Both View)) → Interleaves xs ys (before ++ (turn ∷ after))
+          → Runs before answers middle → OnSide Step middle turn given next
+          → NamesFirst (sideLayout (turn .side)) (sideProtection (turn .side)) (turn .call .first) (given .answer)
       -- any two interleavings end alike, and give each list the same, but for what outer reads give of protected sectors
       pub independent : (turns others : List (Turn Call)) (answers otherAnswers : List (Reply Answer)) (last otherLast : State (Both View))
           → Interleaves xs ys turns → Interleaves xs ys others → Runs turns answers last → Runs others otherAnswers otherLast

@@ -5,6 +5,7 @@ pub mod Claims
 pub mod Extents
 pub mod FromHeaders
 pub mod Header
+pub mod InTheWay
 pub mod Interleaving
 pub mod Judging
 pub mod MapProgram

@@ -5,14 +5,15 @@ use Prim.Native.Nat.{ℕ, _+_, _*_, _≤_}
 use mathlib.Core.{Path._≡_, Logic._↔_, Bool.{Bool, true, false}, List.{List, _++_}}
 use lib.ListN.{length, drop}
 use Rattle.judgement.specs.Judging.{lockedAfter}
-use Rattle.judgement.specs.Offsets.{offsetBy}
+use Rattle.judgement.specs.Offsets.{placedBy}
 use Rattle.answers.specs.Answers.{isAccepted, answerRefusal}
-use Rattle.answers.specs.declared.{Answer.{Answer, the-variants.{Accepted, Refused}}, Numbered.the-variants.Number}
-use Rattle.answers.specs.declared.Numbered.the-variants as numbered
+use Rattle.answers.specs.declared.{Answer.{Answer, the-variants.{Accepted, Refused, RefusedAt}}, Numbered.the-variants.Number}
+use Rattle.answers.specs.declared.Placement.the-variants as placement
 use Rattle.copy.specs.Copy.{copied}
 use Rattle.layout.specs.declared.Layout.{Layout}
-use Rattle.protection.specs.Protection.{soundProtection, protectedExtent, pairAnswer}
+use Rattle.protection.specs.Protection.{soundProtection, protectedExtent, paired}
 use Rattle.protection.specs.declared.Protection.{Protection}
+use Rattle.protection.specs.declared.Pairing.the-variants as pairing
 use Rattle.sector_map.specs.SectorMap.{hostSector}
 use Rattle.guarantees.specs.{Extents.Within, ReferenceModel.{inRange, lockLeft}, SectorMap.{Sound, InArea}}
 use Rattle.guarantees.specs.Views.{area, SoundRange, Nested}
@@ -22,6 +23,7 @@ pub record KeepsParts (layout hiddenLayout : Layout) (protection : Protection) :
   -- an acceptance is one, and no refusal is
   pub acceptance : isAccepted Accepted ≡ true
   pub noAcceptance : (number : ℕ) → isAccepted (Refused number) ≡ false
+  pub noAcceptanceAt : (number sector : ℕ) → isAccepted (RefusedAt number sector) ≡ false
   -- sound exactly where the layout is and its protected range
   pub soundness : (soundProtection layout protection ≡ true) ↔ (Sound layout × SoundRange layout protection)
   -- a user sector is a protected one exactly where its host sector lies in the range
@@ -30,14 +32,15 @@ pub record KeepsParts (layout hiddenLayout : Layout) (protection : Protection) :
   -- the sectors of a hidden data area as a range are those that its volume's map has
   pub hiddenSectors : Sound hiddenLayout → (host : ℕ) → (inRange (area hiddenLayout) host ≡ true) ↔ InArea hiddenLayout host
   -- a pair: 11 if either is unsound, then 12 unless they nest
-  pub pairNests : Sound layout → Sound hiddenLayout → Nested layout hiddenLayout → pairAnswer layout hiddenLayout ≡ Accepted
-  pub pairUnsound : (Sound layout × Sound hiddenLayout → ⊥) → pairAnswer layout hiddenLayout ≡ Refused 11
-  pub pairApart : Sound layout → Sound hiddenLayout → (Nested layout hiddenLayout → ⊥) → pairAnswer layout hiddenLayout ≡ Refused 12
+  pub pairNests : Sound layout → Sound hiddenLayout → Nested layout hiddenLayout → paired layout hiddenLayout ≡ pairing.Nested
+  pub pairUnsound : (Sound layout × Sound hiddenLayout → ⊥) → paired layout hiddenLayout ≡ pairing.Refused 11
+  pub pairApart : Sound layout → Sound hiddenLayout → (Nested layout hiddenLayout → ⊥) → paired layout hiddenLayout ≡ pairing.Refused 12
   -- 18 closes the lock
   pub locks : (locked : Bool) (answer : Answer) → lockedAfter locked (answerRefusal answer) ≡ lockLeft answer locked
   -- an extent's first byte: O and 512 for each user sector before it; a refusal gives none
-  pub starts : (first : ℕ) → offsetBy Accepted layout first ≡ Number (layout .«data_start» + first * 512)
-  pub noStart : (first number : ℕ) → offsetBy (Refused number) layout first ≡ numbered.Refused number
+  pub starts : (first : ℕ) → placedBy Accepted layout first ≡ placement.Offset (layout .«data_start» + first * 512)
+  pub noStart : (first number : ℕ) → placedBy (Refused number) layout first ≡ placement.Refused number
+  pub noStartAt : (first number sector : ℕ) → placedBy (RefusedAt number sector) layout first ≡ placement.RefusedAt number sector
   -- a copy lays its bytes over the start; more than 64 KiB, or than there is room for, change nothing
   pub copies : (from to : List ℕ) → length from ≤ 65536 → length from ≤ length to → copied from to ≡ from ++ drop (length from) to
   pub copiesNothing : (from to : List ℕ) → (((length from ≤ 65536) × (length from ≤ length to)) → ⊥) → copied from to ≡ to

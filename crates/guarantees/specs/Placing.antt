@@ -5,7 +5,7 @@ use Prim.Native.Nat.{ℕ, _+_, _*_, _≤_}
 use mathlib.Core.{Path._≡_, Logic._↔_, Bool.cond, List.{List, _++_}}
 use lib.{Dec.eqb, ListN.{length, getD, take, drop}}
 use Rattle.answers.specs.declared.Answer.the-variants as answer
-use Rattle.answers.specs.declared.Numbered.the-variants.{Number, Refused}
+use Rattle.answers.specs.declared.Placement.the-variants.{Offset, Refused, RefusedAt}
 use Rattle.view.specs.Outcomes.{readPlaced, writePlaced}
 use Rattle.view.specs.declared.{Placed.Placed, View.View}
 use Rattle.boundary_access.specs.BoundaryAccess.{ReadCall, WriteCall, ReadExtentCall, WriteExtentCall}
@@ -30,13 +30,17 @@ module _ (view : View) (image : List ℕ) (first count : ℕ) (buffer : List ℕ
 
   -- the claim for any view
   pub record PlacesExtents : Type 0 where
-    -- the same refusals as the read's and the write's
-    pub readRefused : (number : ℕ) → (readAt .offset ≡ Refused number) ↔ (readBy view image first count buffer ≡ answer.Refused number)
-    pub writeRefused : (number : ℕ) → (writeAt .offset ≡ Refused number) ↔ (writeBy view image first count buffer ≡ answer.Refused number)
+    -- the same refusals as the read's and the write's, at the same sectors
+    pub readRefused : (number : ℕ) → (readAt .placement ≡ Refused number) ↔ (readBy view image first count buffer ≡ answer.Refused number)
+    pub readRefusedAt : (number sector : ℕ)
+        → (readAt .placement ≡ RefusedAt number sector) ↔ (readBy view image first count buffer ≡ answer.RefusedAt number sector)
+    pub writeRefused : (number : ℕ) → (writeAt .placement ≡ Refused number) ↔ (writeBy view image first count buffer ≡ answer.Refused number)
+    pub writeRefusedAt : (number sector : ℕ)
+        → (writeAt .placement ≡ RefusedAt number sector) ↔ (writeBy view image first count buffer ≡ answer.RefusedAt number sector)
     -- the bytes at the offset are those that the read gives, and that the write leaves
-    pub readTaken : (offset : ℕ) → readAt .offset ≡ Number offset
+    pub readTaken : (offset : ℕ) → readAt .placement ≡ Offset offset
         → IsPlace offset × (take (length buffer) (drop offset image) ≡ filledWith view image first count buffer)
-    pub writeStored : (offset : ℕ) → writeAt .offset ≡ Number offset
+    pub writeStored : (offset : ℕ) → writeAt .placement ≡ Offset offset
         → IsPlace offset × (storedAt offset buffer image ≡ writtenWith view image first count buffer)
     -- the views handed back are the read's and the write's
     pub readView : readAt .view ≡ view
@@ -51,13 +55,14 @@ unfoldable pub stored : ℕ → List ℕ → List ℕ → List ℕ → List ℕ
 stored number offset image buffer = cond (eqb number 0) (storedAt (getD offset 0 0) buffer image) image
 
 -- the claim for the exported calls on any numbers: with the bytes moved by the caller each is a read or a write, so that demand 3 is kept
-pub record PlacesNumbers (view image : List ℕ) (first count : ℕ) (buffer before : List ℕ) : Type 0 where
-  pub isRead : (number : ℕ) (offset : List ℕ) → ReadExtentCall view (length image) first count (length buffer) before number offset
-      → ReadCall view image first count buffer number (taken number offset image buffer)
-  pub isWrite : (number : ℕ) (offset left : List ℕ) → WriteExtentCall view (length image) first count (length buffer) before number offset left
-      → WriteCall view image first count buffer number (stored number offset image buffer) left
+pub record PlacesNumbers (view image : List ℕ) (first count : ℕ) (buffer offsetBefore sectorBefore : List ℕ) : Type 0 where
+  pub isRead : (number : ℕ) (offset sector : List ℕ) → ReadExtentCall view (length image) first count (length buffer) offsetBefore sectorBefore number offset sector
+      → ReadCall view image first count buffer sectorBefore number (taken number offset image buffer) sector
+  pub isWrite : (number : ℕ) (offset left sector : List ℕ)
+      → WriteExtentCall view (length image) first count (length buffer) offsetBefore sectorBefore number offset left sector
+      → WriteCall view image first count buffer sectorBefore number (stored number offset image buffer) left sector
   -- a refusal leaves the offset as it was
-  pub readSame : (number : ℕ) (offset : List ℕ) → (number ≡ 0 → ⊥)
-      → ReadExtentCall view (length image) first count (length buffer) before number offset → offset ≡ before
-  pub writeSame : (number : ℕ) (offset left : List ℕ) → (number ≡ 0 → ⊥)
-      → WriteExtentCall view (length image) first count (length buffer) before number offset left → offset ≡ before
+  pub readSame : (number : ℕ) (offset sector : List ℕ) → (number ≡ 0 → ⊥)
+      → ReadExtentCall view (length image) first count (length buffer) offsetBefore sectorBefore number offset sector → offset ≡ offsetBefore
+  pub writeSame : (number : ℕ) (offset left sector : List ℕ) → (number ≡ 0 → ⊥)
+      → WriteExtentCall view (length image) first count (length buffer) offsetBefore sectorBefore number offset left sector → offset ≡ offsetBefore

@@ -1,14 +1,16 @@
 -- The rules by which the reference model goes (RULES.md, The reference model), for a view of a layout and what it protects: it judges by the
 -- table of refusals and moves raw bytes, sector by sector over the sector map. Assumes nothing.
 use Prim.Native.Nat.{ℕ, _*_}
-use mathlib.Core.{Bool.{Bool, true, false, _&&_, _||_, cond}, List.{List, [], _∷_}}
+use mathlib.Core.{Bool.{Bool, true, false, _&&_, cond}, List.List}
 use lib.Dec.{leb, ltb, eqb}
-use Rattle.answers.specs.Answers.{isAccepted}
-use Rattle.answers.specs.declared.Answer.{Answer, the-variants.{Accepted, Refused}}
+use Rattle.answers.specs.Answers.{isAccepted, Naming}
+use Rattle.answers.specs.declared.{Answer.{Answer, the-variants.{Accepted, Refused, RefusedAt}}, Numbered.Numbered}
+use Rattle.answers.specs.declared.Numbered.the-variants as numbered
 use Rattle.layout.specs.declared.Layout.{Layout}
 use Rattle.protection.specs.declared.Protection.{Protection, the-variants.{Unprotected, Protected}}
+use Rattle.sector_map.specs.SectorMap.{hostSector}
 use Rattle.model.specs.Model.{Rules}
-use Rattle.guarantees.specs.Table.{Operation, reads, writes, Call, tabled, covers}
+use Rattle.guarantees.specs.Table.{Operation, reads, writes, Call, firstOf, tabled, covers}
 
 -- a call writes
 unfoldable pub isWrite : Operation → Bool
@@ -19,16 +21,21 @@ isWrite writes = true
 unfoldable pub lockLeft : Answer → Bool → Bool
 lockLeft Accepted locked = locked
 lockLeft (Refused number) locked = cond (eqb number 18) true locked
+lockLeft (RefusedAt number sector) locked = cond (eqb number 18) true locked
 
 -- a host sector lies in the protected range
 unfoldable pub inRange : Protection → ℕ → Bool
 inRange Unprotected host = false
 inRange (Protected first end) host = leb first (host * 512) && ltb (host * 512) end
 
--- one of the host sectors does
-unfoldable pub anyInRange : Protection → List ℕ → Bool
-anyInRange protection [] = false
-anyInRange protection (host ∷ hosts) = inRange protection host || anyInRange protection hosts
+-- the host sector that the map gives does
+unfoldable pub isProtected : Protection → Numbered → Bool
+isProtected protection (numbered.Number host) = inRange protection host
+isProtected protection (numbered.Refused number) = false
+
+-- the first sector of an extent whose host sector does, if one has
+unfoldable pub firstProtected : Layout → Protection → ℕ → ℕ → Naming
+firstProtected layout protection first count = firstOf (λ user. isProtected protection (hostSector layout user)) first count
 
 -- the host sectors of a call
 unfoldable pub hostsOf : Layout → Call → List ℕ
@@ -41,7 +48,7 @@ viewRules layout protection =
       buffer = λ call. call .buffer;
       writes = λ call. isWrite (call .operation);
       hosts = hostsOf layout;
-      judge = λ call locked imageSize. tabled layout locked (anyInRange protection (hostsOf layout call)) imageSize call;
+      judge = λ call locked imageSize. tabled layout locked (firstProtected layout protection (call .first) (call .count)) imageSize call;
       accepts = λ call. isAccepted;
       lockAfter = λ call. lockLeft;
       stored = λ call host piece. piece;

@@ -1,23 +1,20 @@
 -- What an acceptance says of a call, how the later checks of a write join those of every call, and the lock after one.
 -- Assumes nothing.
-use Prim.Native.Nat.{ℕ, suc, _+_, _-_, _*_, _≤_}
+use Prim.Native.Nat.{ℕ, _+_, _*_, _≤_}
 use native.Mathlib.Omega.{arith}
-use mathlib.Core.{Path.{_≡_, sym, ap, _∙_}, Bool.{Bool, true, false, not, cond}}
+use mathlib.Core.{Path.{_≡_, refl, sym, ap, _∙_}, Bool.{Bool, true, false, true≢false, not, _||_, cond}}
 use lib.Dec.{leb, eqb}
 use borrow.Author.Tests.{leb-true, eqb-true, le-leb, eq-eqb, ne-eqb}
-use Rattle.answers.specs.{Answers.line, declared.Answer.{Answer, the-variants.{Accepted, Refused}}}
-use Rattle.answers.proofs.AnswerLaws.{refused-accepted, line-accepted, line-holds}
-use Rattle.extent.specs.declared.Overlap.{Overlap, the-variants.{Apart, From}}
+use Rattle.answers.specs.{Answers.{line, isAccepted}, declared.Answer.{Answer, the-variants.{Accepted, Refused, RefusedAt}}}
+use Rattle.answers.proofs.AnswerLaws.{unaccepted, refused-at-accepted, line-accepted, line-holds}
+use Rattle.extent.specs.{Extents.{overlap, beyond}, declared.Overlap.{Overlap, the-variants.{Apart, From}}}
+use Rattle.extent.proofs.OverlapLaws.{beyond-apart, apart-beyond}
 use Rattle.layout.specs.{Rules.{sectorBytes, sound}, declared.Layout.Layout}
 use Rattle.layout.proofs.RuleLaws.{and-true-left, sound-ends}
-use Rattle.layout.proofs.TestLaws.{leb-iff}
-use Rattle.protection.specs.{Protection.{protectionRule, soundProtection}, declared.Protection.Protection}
+use Rattle.protection.specs.{Protection.{protectionRule, soundProtection, protectedExtent}, declared.Protection.Protection}
 use Rattle.sector_map.specs.SectorMap.{sectors}
-use Rattle.judgement.specs.{Judging.{maxCount, checked, apartAnswer, lockAnswer, readAnswer, writeAnswer, lockedAfter}, Offsets.extentStart}
-
--- an extent's end by what is left of the volume
-pub inside-by-rest : (first count total : ℕ) → count ≤ total → leb first (total - count) ≡ leb (first + count) total
-inside-by-rest first count total h = leb-iff first (total - count) (first + count) total (λ k. omega arith) (λ k. omega arith)
+use Rattle.judgement.specs.Judging.{maxCount, blockedBy, endAnswer, checked, lockAnswer, readAnswer, writeAnswer, lockedAfter}
+use Rattle.judgement.specs.Offsets.{extentStart}
 
 -- 18 closes the lock, and no other number does
 pub lock-closed : {number : ℕ} (locked : Bool) → number ≡ 18 → true ≡ lockedAfter locked number
@@ -28,16 +25,37 @@ pub lock-left-alone : {number : ℕ} (locked : Bool) → (number ≡ 18 → ⊥)
 unfolding lockedAfter
 lock-left-alone {number = number} locked f = ap (λ (closes : Bool). cond closes true locked) (sym (ne-eqb number 18 f))
 
--- a refusal by five checks does not depend on the later ones
-refused-alike : (a b c d e : Bool) (number : ℕ) (later : Answer)
-    → line (Refused 11) a (line (Refused 13) b (line (Refused 14) c (line (Refused 15) d (line (Refused 16) e Accepted)))) ≡ Refused number
-    → line (Refused 11) a (line (Refused 13) b (line (Refused 14) c (line (Refused 15) d (line (Refused 16) e later)))) ≡ Refused number
-refused-alike false b c d e number later h = h
-refused-alike true false c d e number later h = h
-refused-alike true true false d e number later h = h
-refused-alike true true true false e number later h = h
-refused-alike true true true true false number later h = h
-refused-alike true true true true true number later h = refused-accepted number (sym h)
+-- a check of an extent, by what was found in its way
+module _ (number : ℕ) (later : Answer) {found way : Overlap} (finds : found ≡ way) where
+  pub blocked-apart : found ≡ Apart → later ≡ blockedBy number way later
+  unfolding blockedBy
+  blocked-apart e = rw (← finds, e)
+
+  pub blocked-from : {sector : ℕ} → found ≡ From sector → RefusedAt number sector ≡ blockedBy number way later
+  unfolding blockedBy
+  blocked-from e = rw (← finds, e)
+
+-- what an acceptance says of such a check
+pub blocked-accepted : (number : ℕ) (way : Overlap) (later : Answer) → blockedBy number way later ≡ Accepted → (way ≡ Apart) × (later ≡ Accepted)
+unfolding blockedBy
+blocked-accepted number Apart later e = (refl, e)
+blocked-accepted number (From sector) later e = refused-at-accepted number sector e
+
+-- past an open lock the later check decides
+pub unlocked : {answer later : Answer} (locked : Bool) → locked ≡ false → answer ≡ later → answer ≡ line (Refused 17) (not locked) later
+unlocked locked e same = rw (e, same)
+
+-- a refusal by the checks of every call does not depend on the later ones
+refused-alike : (a b c d : Bool) (way : Overlap) (later answer : Answer) → isAccepted answer ≡ false
+    → line (Refused 11) a (line (Refused 13) b (line (Refused 14) c (line (Refused 15) d (blockedBy 16 way Accepted)))) ≡ answer
+    → line (Refused 11) a (line (Refused 13) b (line (Refused 14) c (line (Refused 15) d (blockedBy 16 way later)))) ≡ answer
+unfolding blockedBy
+refused-alike false b c d way later answer f h = h
+refused-alike true false c d way later answer f h = h
+refused-alike true true false d way later answer f h = h
+refused-alike true true true false way later answer f h = h
+refused-alike true true true true (From sector) later answer f h = h
+refused-alike true true true true Apart later answer f h = unaccepted f (sym h)
 
 module _ (layout : Layout) (protection : Protection) (imageSize first count bufferSize : ℕ) where
   -- every check is passed
@@ -49,19 +67,19 @@ module _ (layout : Layout) (protection : Protection) (imageSize first count buff
     pub inside : first + count ≤ sectors layout
 
   pub checked-accepted : (later : Answer) → checked layout protection imageSize first count bufferSize later ≡ Accepted → Passed × (later ≡ Accepted)
-  unfolding checked
+  unfolding checked endAnswer
   checked-accepted later e =
       let p11 = line-accepted 11 (soundProtection layout protection) _ e in
       let p13 = line-accepted 13 (eqb imageSize (layout .«host_size»)) _ (p11 .1) in
       let p14 = line-accepted 14 (leb count maxCount) _ (p13 .1) in
       let p15 = line-accepted 15 (eqb bufferSize (count * sectorBytes)) _ (p14 .1) in
-      let p16 = line-accepted 16 (leb (first + count) (sectors layout)) later (p15 .1) in (
+      let p16 = blocked-accepted 16 _ later (p15 .1) in (
         record {
           soundness = p11 .0;
           imageWhole = eqb-true imageSize (layout .«host_size») (p13 .0);
           few = leb-true count maxCount (p14 .0);
           bufferWhole = eqb-true bufferSize (count * sectorBytes) (p15 .0);
-          inside = leb-true (first + count) (sectors layout) (p16 .0);
+          inside = beyond-apart (record { first = first; count = count }) (sectors layout) (p16 .0);
         },
         p16 .1,
       )
@@ -93,39 +111,67 @@ module _ (layout : Layout) (protection : Protection) (imageSize first count buff
 
   -- past the checks of every call, the later ones decide
   pub checked-passed : Passed → (later : Answer) → later ≡ checked layout protection imageSize first count bufferSize later
-  unfolding checked
+  unfolding checked endAnswer blockedBy
   checked-passed p later =
-      sym (simp (p .soundness, eq-eqb _ _ (p .imageWhole), le-leb _ _ (p .few), eq-eqb _ _ (p .bufferWhole), le-leb _ _ (p .inside)))
+      sym (simp (
+        p .soundness,
+        eq-eqb _ _ (p .imageWhole),
+        le-leb _ _ (p .few),
+        eq-eqb _ _ (p .bufferWhole),
+        apart-beyond (record { first = first; count = count }) (sectors layout) (p .inside),
+      ))
 
   -- and a refusal among them is that of a read
-  pub checked-refused : {answer : Answer} {number : ℕ} (later : Answer) → answer ≡ readAnswer layout protection imageSize first count bufferSize
-      → answer ≡ Refused number → answer ≡ checked layout protection imageSize first count bufferSize later
-  unfolding readAnswer checked
-  checked-refused {number = number} later judged e =
+  pub checked-refused : {answer given : Answer} (later : Answer) → answer ≡ readAnswer layout protection imageSize first count bufferSize
+      → answer ≡ given → isAccepted given ≡ false → answer ≡ checked layout protection imageSize first count bufferSize later
+  unfolding readAnswer checked endAnswer
+  checked-refused later judged e f =
       e ∙ sym (refused-alike (soundProtection layout protection) (eqb imageSize (layout .«host_size»)) (leb count maxCount)
-      (eqb bufferSize (count * sectorBytes)) (leb (first + count) (sectors layout)) number later (sym judged ∙ e))
+      (eqb bufferSize (count * sectorBytes)) (beyond (record { first = first; count = count }) (sectors layout)) later _ f (sym judged ∙ e))
 
--- no call is refused by 0: what holds of an acceptance and of refusals with other numbers holds of every answer
-module _ (P : Answer → Type 0) (accepted : P Accepted) (refused : (number : ℕ) → P (Refused (suc number)))
-    (layout : Layout) (protection : Protection) (imageSize first count bufferSize : ℕ) where
-  checked-holds : (later : Answer) → P later → P (checked layout protection imageSize first count bufferSize later)
+-- the refusals that name a sector
+abbrev pub namesSector : ℕ → Bool
+namesSector number = eqb number 16 || eqb number 18
+
+-- none of them is 0
+pub names-some : (number : ℕ) → namesSector number ≡ true → eqb number 0 ≡ false
+names-some number names = ne-eqb number 0 (λ e. true≢false (sym names ∙ ap namesSector e))
+
+-- what holds of the other refusals, none of which is 0, and of the answer to a check that may name a sector, holds of all in order
+module _ (P : Answer → Type 0) (refused : (number : ℕ) → eqb number 0 ≡ false → namesSector number ≡ false → P (Refused number))
+    (layout : Layout) (protection : Protection) (first count : ℕ) where
+  pub checked-by : (imageSize bufferSize : ℕ) (later : Answer) → P (endAnswer layout first count later)
+      → P (checked layout protection imageSize first count bufferSize later)
   unfolding checked
-  checked-holds later p =
-      line-holds P _ (soundProtection layout protection) _ (refused 10)
-      (line-holds P _ (eqb imageSize (layout .«host_size»)) _ (refused 12)
-      (line-holds P _ (leb count maxCount) _ (refused 13)
-      (line-holds P _ (eqb bufferSize (count * sectorBytes)) _ (refused 14)
-      (line-holds P _ (leb (first + count) (sectors layout)) later (refused 15) p))))
+  checked-by imageSize bufferSize later p =
+      line-holds P _ (soundProtection layout protection) _ (refused 11 refl refl)
+      (line-holds P _ (eqb imageSize (layout .«host_size»)) _ (refused 13 refl refl)
+      (line-holds P _ (leb count maxCount) _ (refused 14 refl refl)
+      (line-holds P _ (eqb bufferSize (count * sectorBytes)) _ (refused 15 refl refl) p)))
+
+  pub lock-by : (locked : Bool) → P (blockedBy 18 (overlap (record { first = first; count = count }) (protectedExtent layout protection)) Accepted)
+      → P (lockAnswer layout protection locked first count)
+  unfolding lockAnswer
+  lock-by locked p = line-holds P _ (not locked) _ (refused 17 refl refl) p
+
+-- 16 and 18 name a sector, and no other refusal does: what holds of such answers holds of every one
+module _ (P : Answer → Type 0) (accepted : P Accepted) (refused : (number : ℕ) → eqb number 0 ≡ false → namesSector number ≡ false → P (Refused number))
+    (refusedAt : (number sector : ℕ) → namesSector number ≡ true → P (RefusedAt number sector))
+    (layout : Layout) (protection : Protection) (imageSize first count bufferSize : ℕ) where
+  blocked-holds : (number : ℕ) (way : Overlap) (later : Answer) → namesSector number ≡ true → P later → P (blockedBy number way later)
+  unfolding blockedBy
+  blocked-holds number Apart later e p = p
+  blocked-holds number (From sector) later e p = refusedAt number sector e
+
+  checked-holds : (later : Answer) → P later → P (checked layout protection imageSize first count bufferSize later)
+  unfolding endAnswer
+  checked-holds later p = checked-by P refused layout protection first count imageSize bufferSize later (blocked-holds 16 _ later refl p)
 
   pub read-holds : P (readAnswer layout protection imageSize first count bufferSize)
   unfolding readAnswer
   read-holds = checked-holds Accepted accepted
 
-  apart-holds : (shared : Overlap) → P (apartAnswer shared)
-  unfolding apartAnswer
-  apart-holds Apart = accepted
-  apart-holds (From sector) = refused 17
-
   pub write-holds : (locked : Bool) → P (writeAnswer layout protection locked imageSize first count bufferSize)
-  unfolding writeAnswer lockAnswer
-  write-holds locked = checked-holds _ (line-holds P _ (not locked) _ (refused 16) (apart-holds _))
+  unfolding writeAnswer
+  write-holds locked =
+      checked-holds _ (lock-by P refused layout protection first count locked (blocked-holds 18 _ Accepted refl accepted))

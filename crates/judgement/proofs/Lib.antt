@@ -1,2 +1,2 @@
 pub mod JudgingLaws
-pub mod OffsetLaws
+pub mod PlacementLaws

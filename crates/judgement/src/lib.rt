@@ -3,14 +3,14 @@
 // Assumes nothing; no public function has a `requires`.
 ghost use mathlib.Core.Path.{_≡_};
 ghost use mathlib.Core.Bool.{true};
-ghost use Prim.Native.Nat.{_+_, _≤_};
-ghost use lib.Dec.{leb};
+ghost use Prim.Native.Nat.{_≤_};
 ghost use Rattle.layout.specs.Rules.{sound};
 ghost use Rattle.sector_map.specs.SectorMap.{sectors};
-ghost use Rattle.judgement.specs.Judging.{readAnswer, writeAnswer, lockAnswer, lockedAfter};
-ghost use Rattle.judgement.specs.Offsets.{extentStart, offsetBy};
+ghost use Rattle.answers.specs.declared.Answer.the-variants.{Accepted};
+ghost use Rattle.judgement.specs.Judging.{readAnswer, writeAnswer, endAnswer, lockAnswer, lockedAfter};
+ghost use Rattle.judgement.specs.Offsets.{extentStart, placedBy};
 use answers::Answer;
-use answers::Numbered;
+use answers::Placement;
 use extent::Extent;
 use extent::Overlap;
 use layout::Layout;
@@ -29,14 +29,11 @@ pub fn read_extent(
     first: u64,
     count: u64,
     buffer_size: u64,
-) -> Numbered
-    ensures { λ r. ⌜ r ≡ offsetBy (readAnswer layout protection «image_size» first count «buffer_size») layout first ⌝ }
+) -> Placement
+    ensures { λ r. ⌜ r ≡ placedBy (readAnswer layout protection «image_size» first count «buffer_size») layout first ⌝ }
 {
     let answer = judge_read(layout, protection, image_size, first, count, buffer_size);
-    match answer {
-        Answer::Accepted => Numbered::Number(extent_start(layout, first)),
-        Answer::Refused(number) => Numbered::Refused(number),
-    }
+    place(answer, layout, first)
 }
 
 // Where in the host a write finds its bytes, or what the write is refused by.
@@ -48,8 +45,8 @@ pub fn write_extent(
     first: u64,
     count: u64,
     buffer_size: u64,
-) -> Numbered
-    ensures { λ r. ⌜ r ≡ offsetBy (writeAnswer layout protection locked «image_size» first count «buffer_size») layout first ⌝ }
+) -> Placement
+    ensures { λ r. ⌜ r ≡ placedBy (writeAnswer layout protection locked «image_size» first count «buffer_size») layout first ⌝ }
 {
     let answer = judge_write(
         layout,
@@ -60,10 +57,7 @@ pub fn write_extent(
         count,
         buffer_size,
     );
-    match answer {
-        Answer::Accepted => Numbered::Number(extent_start(layout, first)),
-        Answer::Refused(number) => Numbered::Refused(number),
-    }
+    place(answer, layout, first)
 }
 
 // A lock after a write that returned this number: 18 closes it.
@@ -99,14 +93,11 @@ fn judge_read(
     if buffer_size != count * SECTOR_SIZE {
         return Answer::Refused(15);
     }
-    if !is_inside(layout, first, count) {
-        return Answer::Refused(16);
-    }
-    Answer::Accepted
+    judge_end(layout, first, count)
 }
 
 // What a write answers: the checks of every call, then 17 where the lock is closed, and 18 where the
-// extent has a protected sector.
+// extent has a protected sector, at the first one.
 fn judge_write(
     layout: Layout,
     protection: Protection,
@@ -122,6 +113,18 @@ fn judge_write(
     match answer {
         Answer::Accepted => judge_lock(layout, protection, locked, first, count),
         Answer::Refused(_) => answer,
+        Answer::RefusedAt(_, _) => answer,
+    }
+}
+
+// The last check of every call: 16 where the extent reaches past the volume's end, at its first such sector.
+fn judge_end(layout: Layout, first: u64, count: u64) -> Answer
+    ensures { λ r. ⌜ r ≡ endAnswer layout first count Accepted ⌝ }
+{
+    let past = extent::first_past(Extent { first, count }, layout.data_size / SECTOR_SIZE);
+    match past {
+        Overlap::Apart => Answer::Accepted,
+        Overlap::From(sector) => Answer::RefusedAt(16, sector),
     }
 }
 
@@ -142,19 +145,20 @@ fn judge_lock(
     let shared = extent::first_shared(Extent { first, count }, protected);
     match shared {
         Overlap::Apart => Answer::Accepted,
-        Overlap::From(_) => Answer::Refused(18),
+        Overlap::From(sector) => Answer::RefusedAt(18, sector),
     }
 }
 
-// Whether an extent ends inside a volume.
-fn is_inside(layout: Layout, first: u64, count: u64) -> bool
-    ensures { λ r. ⌜ r ≡ leb (first + count) (sectors layout) ⌝ }
+// The first byte of an extent where its answer accepts, else the refusal.
+fn place(answer: Answer, layout: Layout, first: u64) -> Placement
+    requires { ⌜ (answer ≡ Accepted → (sound layout ≡ true) × (first ≤ sectors layout)) ⌝ }
+    ensures { λ r. ⌜ r ≡ placedBy answer layout first ⌝ }
 {
-    let sectors = layout.data_size / SECTOR_SIZE;
-    if sectors < count {
-        return false;
+    match answer {
+        Answer::Accepted => Placement::Offset(extent_start(layout, first)),
+        Answer::Refused(number) => Placement::Refused(number),
+        Answer::RefusedAt(number, sector) => Placement::RefusedAt(number, sector),
     }
-    first <= sectors - count
 }
 
 // The first byte of an extent in the host.

@@ -1,10 +1,10 @@
 -- How a view is made (RULES.md, Views). What the contracts of `plain` and `protected` cite. Assumes nothing.
 use Prim.Native.Nat.{ℕ}
 use mathlib.Core.Bool.{Bool, false}
-use Rattle.answers.specs.{Answers.line, declared.Answer.Answer}
-use Rattle.answers.specs.declared.Answer.the-variants as answer
+use Rattle.answers.specs.Answers.{line}
 use Rattle.layout.specs.{Rules.sound, declared.Layout.Layout}
-use Rattle.protection.specs.{Protection.{areaEnd, pairAnswer}, declared.Protection.the-variants.{Unprotected, Protected}}
+use Rattle.protection.specs.{Protection.{areaEnd, paired}, declared.{Pairing.Pairing, Protection.the-variants.{Unprotected, Protected}}}
+use Rattle.protection.specs.declared.Pairing.the-variants as pairing
 use Rattle.view.specs.declared.View.{View}
 use Rattle.making.specs.declared.Viewed.{Viewed, the-variants.{Made, Refused}}
 
@@ -21,14 +21,14 @@ protectedOf outer hiddenLayout locked =
 unfoldable pub plainView : Layout → Viewed
 plainView layout = line (Refused 11) (sound layout) (Made (plainOf layout false))
 
--- a view where an answer accepts, else its refusal
-unfoldable pub madeBy : Answer → View → Viewed
-madeBy answer.Accepted view = Made view
-madeBy (answer.Refused number) view = Refused number
+-- a view where a pair nests, else its refusal
+unfoldable pub madeBy : Pairing → View → Viewed
+madeBy pairing.Nested view = Made view
+madeBy (pairing.Refused number) view = Refused number
 
 -- a pair that can be protected gives a protected view, its lock open
 unfoldable pub protectedView : Layout → Layout → Viewed
-protectedView outer hiddenLayout = madeBy (pairAnswer outer hiddenLayout) (protectedOf outer hiddenLayout false)
+protectedView outer hiddenLayout = madeBy (paired outer hiddenLayout) (protectedOf outer hiddenLayout false)
 
 -- the refusal number of a view's making; 0 for a view is our own convention
 unfoldable pub viewedRefusal : Viewed → ℕ

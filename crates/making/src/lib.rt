@@ -2,8 +2,8 @@
 // Assumes nothing; no function has a `requires`.
 ghost use mathlib.Core.Path.{_≡_};
 ghost use Rattle.making.specs.Views.{plainView, protectedView, viewedRefusal};
-use answers::Answer;
 use layout::Layout;
+use protection::Pairing;
 use protection::Protection;
 use view::View;
 
@@ -42,9 +42,9 @@ pub fn plain(layout: Layout) -> Viewed
 pub fn protected(outer: Layout, hidden: Layout) -> Viewed
     ensures { λ r. ⌜ r ≡ protectedView outer hidden ⌝ }
 {
-    let answer = protection::check_pair(outer, hidden);
-    match answer {
-        Answer::Accepted => {
+    let pair = protection::check_pair(outer, hidden);
+    match pair {
+        Pairing::Nested => {
             let end = hidden.data_start + hidden.data_size;
             Viewed::Made(View {
                 layout: outer,
@@ -52,6 +52,6 @@ pub fn protected(outer: Layout, hidden: Layout) -> Viewed
                 locked: false,
             })
         }
-        Answer::Refused(number) => Viewed::Refused(number),
+        Pairing::Refused(number) => Viewed::Refused(number),
     }
 }

@@ -1,7 +1,7 @@
 // The boundary for C and Rust: the exported functions, over numbers and slices. Each hands on to a function
 // of another crate that has the same contract. Every function but the checksum's returns 0 where it accepts,
-// and else the refusal number. A refusal changes nothing that was passed for writing, but for 18, which
-// closes the view's lock.
+// and else the refusal number. A refusal changes nothing that was passed for writing, but that 16 and 18 of
+// reads, writes and their extents store the first user sector in the way, and 18 closes the view's lock.
 // Assumes nothing; no public function has a `requires`.
 ghost use mathlib.Core.Path.{_≡_};
 ghost use lib.ListN.{length};
@@ -160,10 +160,11 @@ pub extern "C" fn ondristela_read(
     first: u64,
     count: u64,
     buffer: &mut [u8],
+    sector: &mut [u64; 1],
 ) -> u64
-    ensures { λ r. ⌜ ReadCall (now (view .entry)) (now (image .entry)) first count (now (buffer .entry)) r (now (buffer .exit)) ⌝ }
+    ensures { λ r. ⌜ ReadCall (now (view .entry)) (now (image .entry)) first count (now (buffer .entry)) (now (sector .entry)) r (now (buffer .exit)) (now (sector .exit)) ⌝ }
 {
-    boundary_access::read(view, image, first, count, buffer)
+    boundary_access::read(view, image, first, count, buffer, sector)
 }
 
 // Copies the buffer into the image's sectors, from user sector first on. 18 closes the view's lock.
@@ -174,10 +175,11 @@ pub extern "C" fn ondristela_write(
     first: u64,
     count: u64,
     buffer: &[u8],
+    sector: &mut [u64; 1],
 ) -> u64
-    ensures { λ r. ⌜ WriteCall (now (view .entry)) (now (image .entry)) first count (now (buffer .entry)) r (now (image .exit)) (now (view .exit)) ⌝ }
+    ensures { λ r. ⌜ WriteCall (now (view .entry)) (now (image .entry)) first count (now (buffer .entry)) (now (sector .entry)) r (now (image .exit)) (now (view .exit)) (now (sector .exit)) ⌝ }
 {
-    boundary_access::write(view, image, first, count, buffer)
+    boundary_access::write(view, image, first, count, buffer, sector)
 }
 
 // Where in the host a read of such sizes finds its bytes: the extent's first byte.
@@ -189,10 +191,11 @@ pub extern "C" fn ondristela_read_extent(
     count: u64,
     buffer_size: u64,
     offset: &mut [u64; 1],
+    sector: &mut [u64; 1],
 ) -> u64
-    ensures { λ r. ⌜ ReadExtentCall (now (view .entry)) «image_size» first count «buffer_size» (now (offset .entry)) r (now (offset .exit)) ⌝ }
+    ensures { λ r. ⌜ ReadExtentCall (now (view .entry)) «image_size» first count «buffer_size» (now (offset .entry)) (now (sector .entry)) r (now (offset .exit)) (now (sector .exit)) ⌝ }
 {
-    boundary_access::read_extent(view, image_size, first, count, buffer_size, offset)
+    boundary_access::read_extent(view, image_size, first, count, buffer_size, offset, sector)
 }
 
 // Where in the host a write of such sizes finds its bytes. 18 closes the view's lock, as a write's does.
@@ -204,10 +207,11 @@ pub extern "C" fn ondristela_write_extent(
     count: u64,
     buffer_size: u64,
     offset: &mut [u64; 1],
+    sector: &mut [u64; 1],
 ) -> u64
-    ensures { λ r. ⌜ WriteExtentCall (now (view .entry)) «image_size» first count «buffer_size» (now (offset .entry)) r (now (offset .exit)) (now (view .exit)) ⌝ }
+    ensures { λ r. ⌜ WriteExtentCall (now (view .entry)) «image_size» first count «buffer_size» (now (offset .entry)) (now (sector .entry)) r (now (offset .exit)) (now (view .exit)) (now (sector .exit)) ⌝ }
 {
-    boundary_access::write_extent(view, image_size, first, count, buffer_size, offset)
+    boundary_access::write_extent(view, image_size, first, count, buffer_size, offset, sector)
 }
 
 // CRC-32 of ITU-T V.42.

@@ -2,15 +2,15 @@
 -- Assumes nothing.
 use Prim.Native.Nat.{ℕ, _+_, _-_, _%_, _≤_, _<_}
 use native.Mathlib.Omega.{arith}
-use mathlib.Core.{Path.{_≡_, sym, _∙_}, Bool.{true, _&&_}}
+use mathlib.Core.{Path.{_≡_, sym, ap, _∙_}, Bool.{Bool, true, false, true≢false, _&&_}}
 use lib.Dec.{leb}
 use borrow.Author.Tests.{eq-eqb, le-leb, lt-ltb}
-use Rattle.answers.specs.declared.Answer.{Answer, the-variants.Accepted}
-use Rattle.answers.proofs.AnswerLaws.{line-accepted}
+use Rattle.answers.proofs.AnswerLaws.{line-passed}
 use Rattle.layout.specs.{Rules.{sectorBytes, standard, sound}, declared.Layout.Layout}
 use Rattle.layout.proofs.RuleLaws.{and-true-right}
 use Rattle.layout.proofs.TestLaws.{leb-iff}
-use Rattle.protection.specs.{Protection.{areaEnd, protectionRule, pairAnswer}, declared.Protection.the-variants.Protected}
+use Rattle.protection.specs.Protection.{areaEnd, protectionRule, paired}
+use Rattle.protection.specs.declared.{Pairing.{Pairing, the-variants.{Nested, Refused}}, Protection.the-variants.Protected}
 
 pub leb-sub : (end start size : ℕ) → start ≤ end → leb (end - start) size ≡ leb end (start + size)
 leb-sub end start size h = leb-iff (end - start) size end (start + size) (λ k. omega arith) (λ k. omega arith)
@@ -29,8 +29,17 @@ range-by-end layout first end k f e some starts =
     ∙ sym (simp (eq-eqb _ _ k, eq-eqb _ _ f, eq-eqb _ _ e, lt-ltb _ _ some, le-leb _ _ starts))
 
 -- a pair that can be protected has a sound second layout
-pub pair-hidden-sound : (outer hiddenLayout : Layout) {answer : Answer} → answer ≡ pairAnswer outer hiddenLayout → answer ≡ Accepted
+isNested : Pairing → Bool
+isNested Nested = true
+isNested (Refused number) = false
+
+pub refused-nested : {A : Type 0} (number : ℕ) → Refused number ≡ Nested → A
+unfolding isNested
+refused-nested number e = absurd (true≢false (sym (ap isNested e)))
+
+pub pair-hidden-sound : (outer hiddenLayout : Layout) {pair : Pairing} → pair ≡ paired outer hiddenLayout → pair ≡ Nested
     → sound hiddenLayout ≡ true
-unfolding pairAnswer
+unfolding paired
 pair-hidden-sound outer hiddenLayout checked e =
-    and-true-right (sound outer) (sound hiddenLayout) (line-accepted 11 (sound outer && sound hiddenLayout) _ (sym checked ∙ e) .0)
+    and-true-right (sound outer) (sound hiddenLayout)
+    (line-passed (Refused 11) Nested (sound outer && sound hiddenLayout) _ (refused-nested 11) (sym checked ∙ e) .0)

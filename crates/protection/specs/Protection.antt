@@ -3,10 +3,10 @@
 use Prim.Native.Nat.{ℕ, _+_, _-_, _/_, _%_}
 use mathlib.Core.Bool.{Bool, true, _&&_}
 use lib.Dec.{leb, ltb, eqb}
-use Rattle.answers.specs.{Answers.line, declared.Answer.{Answer, the-variants.{Accepted, Refused}}}
+use Rattle.answers.specs.Answers.{line}
 use Rattle.extent.specs.declared.Extent.{Extent}
 use Rattle.layout.specs.{Rules.{sectorBytes, standard, hidden, sound}, declared.Layout.Layout}
-use Rattle.protection.specs.declared.Protection.{Protection, the-variants.{Unprotected, Protected}}
+use Rattle.protection.specs.declared.{Pairing.{Pairing, the-variants.{Nested, Refused}}, Protection.{Protection, the-variants.{Unprotected, Protected}}}
 
 -- the byte past a layout's data area: O+V
 unfoldable pub areaEnd : Layout → ℕ
@@ -36,5 +36,5 @@ nests outer hiddenLayout =
     && leb (outer .«data_start») (hiddenLayout .«data_start») && leb (areaEnd hiddenLayout) (areaEnd outer)
 
 -- whether a hidden volume can be protected in an outer one: both layouts are sound, and then they nest
-unfoldable pub pairAnswer : Layout → Layout → Answer
-pairAnswer outer hiddenLayout = line (Refused 11) (sound outer && sound hiddenLayout) (line (Refused 12) (nests outer hiddenLayout) Accepted)
+unfoldable pub paired : Layout → Layout → Pairing
+paired outer hiddenLayout = line (Refused 11) (sound outer && sound hiddenLayout) (line (Refused 12) (nests outer hiddenLayout) Nested)

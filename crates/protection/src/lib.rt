@@ -3,8 +3,7 @@
 ghost use mathlib.Core.Path.{_≡_};
 ghost use Prim.Native.Nat.{_+_, _-_};
 ghost use lib.Dec.{leb};
-ghost use Rattle.protection.specs.Protection.{protectionRule, soundProtection, nests, pairAnswer, protectedExtent};
-use answers::Answer;
+ghost use Rattle.protection.specs.Protection.{protectionRule, soundProtection, nests, paired, protectedExtent};
 use extent::Extent;
 use layout::Layout;
 use layout::SECTOR_SIZE;
@@ -14,6 +13,12 @@ use layout::SECTOR_SIZE;
 pub enum Protection {
     Unprotected,
     Protected(u64, u64),
+}
+
+// Whether a hidden volume can be protected in an outer one, or a refusal number.
+pub enum Pairing {
+    Nested,
+    Refused(u8),
 }
 
 // Whether a layout is sound, and what is protected in it lies in its data area.
@@ -29,21 +34,21 @@ pub fn is_sound(layout: Layout, protection: Protection) -> bool
     }
 }
 
-// Whether a hidden volume can be protected in an outer one: refuses 11 where either layout is not
+// Tests a pair, a hidden volume and the outer one that it lies in: refuses 11 where either layout is not
 // sound, then 12 where the two do not nest.
-pub fn check_pair(outer: Layout, hidden: Layout) -> Answer
-    ensures { λ r. ⌜ r ≡ pairAnswer outer hidden ⌝ }
+pub fn check_pair(outer: Layout, hidden: Layout) -> Pairing
+    ensures { λ r. ⌜ r ≡ paired outer hidden ⌝ }
 {
     if !layout::is_sound(outer) {
-        return Answer::Refused(11);
+        return Pairing::Refused(11);
     }
     if !layout::is_sound(hidden) {
-        return Answer::Refused(11);
+        return Pairing::Refused(11);
     }
     if !do_nest(outer, hidden) {
-        return Answer::Refused(12);
+        return Pairing::Refused(12);
     }
-    Answer::Accepted
+    Pairing::Nested
 }
 
 // What is protected, as user sectors of the layout: an empty extent where nothing is.

@@ -4,7 +4,7 @@ use Prim.Native.Nat.{ℕ}
 use mathlib.Core.{Path._≡_, List.List}
 use lib.ListN.{length}
 use Rattle.answers.specs.{Answers.answerRefusal, declared.Answer.Answer}
-use Rattle.judgement.specs.{Judging.{readAnswer, writeAnswer, lockedAfter}, Offsets.offsetBy}
+use Rattle.judgement.specs.{Judging.{readAnswer, writeAnswer, lockedAfter}, Offsets.placedBy}
 use Rattle.access.specs.Moving.{filledBy, writtenBy}
 use Rattle.view.specs.declared.{Outcome.Outcome, Placed.Placed, View.View}
 
@@ -23,13 +23,13 @@ after view answer = record { layout = view .layout; protection = view .protectio
 -- where a read finds its bytes, or the read's refusal, and the same view
 unfoldable pub readPlaced : View → ℕ → ℕ → ℕ → ℕ → Placed
 readPlaced view imageSize first count bufferSize =
-    record { view = view; offset = offsetBy (viewRead view imageSize first count bufferSize) (view .layout) first }
+    record { view = view; placement = placedBy (viewRead view imageSize first count bufferSize) (view .layout) first }
 
 -- where a write does, and the view as the write leaves it
 unfoldable pub writePlaced : View → ℕ → ℕ → ℕ → ℕ → Placed
 writePlaced view imageSize first count bufferSize =
     let answer = viewWrite view imageSize first count bufferSize in
-    record { view = after view answer; offset = offsetBy answer (view .layout) first }
+    record { view = after view answer; placement = placedBy answer (view .layout) first }
 
 module _ (view : View) (image : List ℕ) (first count : ℕ) (buffer : List ℕ) where
   -- the buffer after a read

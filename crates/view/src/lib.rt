@@ -3,7 +3,7 @@
 ghost use mathlib.Core.Path.{_≡_};
 ghost use Rattle.view.specs.Outcomes.{readPlaced, writePlaced, ReadPost, WritePost};
 use answers::Answer;
-use answers::Numbered;
+use answers::Placement;
 use layout::Layout;
 use protection::Protection;
 
@@ -24,7 +24,7 @@ pub struct Outcome {
 // The view handed back, and where a call finds its bytes, or its refusal.
 pub struct Placed {
     pub view: View,
-    pub offset: Numbered,
+    pub placement: Placement,
 }
 
 impl View {
@@ -40,8 +40,8 @@ impl View {
     }
 
     // Copies the buffer into the image's sectors, from user sector first on. Refuses 17 where the
-    // lock is closed, and 18 where the extent touches the protected range, which closes the lock. A
-    // refusal leaves the image as it was.
+    // lock is closed, and 18, at the first protected sector, where the extent has one, which closes the
+    // lock. A refusal leaves the image as it was.
     pub fn write(self, image: &mut [u8], first: u64, count: u64, buffer: &[u8]) -> Outcome
         ensures { λ r. ⌜ WritePost self (now (image .entry)) first count (now (buffer .entry)) r (now (image .exit)) ⌝ }
     {
@@ -58,6 +58,7 @@ impl View {
             answer,
         }
     }
+
     // Where in the host a read of such sizes finds its bytes: the extent's first byte, or the read's
     // refusal.
     pub fn read_extent(self, image_size: u64, first: u64, count: u64, buffer_size: u64) -> Placed
@@ -65,7 +66,7 @@ impl View {
     {
         let layout = self.layout;
         let protection = self.protection;
-        let offset = judgement::read_extent(
+        let placement = judgement::read_extent(
             layout,
             protection,
             image_size,
@@ -73,7 +74,10 @@ impl View {
             count,
             buffer_size,
         );
-        Placed { view: self, offset }
+        Placed {
+            view: self,
+            placement,
+        }
     }
 
     // Where in the host a write of such sizes finds its bytes, or the write's refusal. 18 closes the lock.
@@ -82,7 +86,7 @@ impl View {
     {
         let layout = self.layout;
         let protection = self.protection;
-        let offset = judgement::write_extent(
+        let placement = judgement::write_extent(
             layout,
             protection,
             self.locked,
@@ -91,14 +95,14 @@ impl View {
             count,
             buffer_size,
         );
-        let locked = judgement::locked_after(self.locked, answers::numbered_refusal(offset));
+        let locked = judgement::locked_after(self.locked, answers::placement_refusal(placement));
         Placed {
             view: View {
                 layout,
                 protection,
                 locked,
             },
-            offset,
+            placement,
         }
     }
 }

@@ -10,17 +10,17 @@ use Rattle.header.specs.Header.{versionRule, reservedRule, flagsRule, sectorSiz
 use Rattle.locations.specs.Locations.{locations, locationOf, codeRule}
 use Rattle.opening.specs.Opening.{lengthsRule, codesRule, candidateAt, judgements, further, searched, opened}
 use Rattle.sector_map.specs.SectorMap.{sectors, firstSector, hostSector, userSector, tweakNumber, blockOf, tweakOf}
-use Rattle.judgement.specs.Judging.{checked, apartAnswer, lockAnswer, readAnswer, writeAnswer, lockedAfter}
-use Rattle.answers.specs.Answers.{answerRefusal}
-use Rattle.extent.specs.Extents.{has, larger, overlap}
-use Rattle.protection.specs.Protection.{areaEnd, protectionRule, soundProtection, protectedExtent, nests, pairAnswer}
+use Rattle.judgement.specs.Judging.{blockedBy, endAnswer, checked, lockAnswer, readAnswer, writeAnswer, lockedAfter}
+use Rattle.answers.specs.Answers.{answerRefusal, answerSector}
+use Rattle.extent.specs.Extents.{has, larger, overlap, beyond}
+use Rattle.protection.specs.Protection.{areaEnd, protectionRule, soundProtection, protectedExtent, nests, paired}
 use Rattle.view.specs.Outcomes.{after}
 use Rattle.making.specs.Views.{plainOf, protectedOf, madeBy, plainView, protectedView}
 use Rattle.map_output.specs.Decimal.{digits, decimal}
 use Rattle.map_output.specs.MapOutput.{textLine, numberLine, eitherLine, magicLine, kindLine, headerLines, areaLines, sectorLines, lastSector, layoutLines}
 use Rattle.guarantees.specs.MapProgram.{letters}
 use Rattle.worked_cases.specs.WorkedCases.{fieldBytes, headerWith, toldOf, opens, volume, volumeM, volumeN, mappedTold, tweakTold}
-use Rattle.worked_cases.specs.WorkedCases.{onView, writing, reading, leaving, cases, AsWorked}
+use Rattle.worked_cases.specs.WorkedCases.{sectorTold, onView, writing, reading, leaving, cases, AsWorked}
 
 table : map (λ c. c .0) cases ≡ map (λ c. c .1) cases
 unfolding cases opens toldOf headerWith fieldBytes bigEndianBytes volume volumeM volumeN mappedTold tweakTold
@@ -30,7 +30,8 @@ unfolding cases opens toldOf headerWith fieldBytes bigEndianBytes volume volumeM
     crc32 crcFrom bitStep bitSteps bigEndian bigEndianFrom
     hostSector userSector tweakNumber tweakOf blockOf sectors firstSector sound littleEndianBytes
     onView writing reading leaving plainView protectedView plainOf protectedOf nests areaEnd protectionRule soundProtection
-    protectedExtent pairAnswer madeBy checked apartAnswer lockAnswer readAnswer writeAnswer lockedAfter after answerRefusal has larger overlap
+    protectedExtent paired madeBy blockedBy endAnswer checked lockAnswer readAnswer writeAnswer lockedAfter after answerRefusal answerSector
+    sectorTold has larger overlap beyond
 table = refl
 
 output : layoutLines volumeM

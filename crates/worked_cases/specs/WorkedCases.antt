@@ -5,7 +5,7 @@ use mathlib.Core.{Path._≡_, List.{List, [], _∷_, _++_, map}}
 use lib.ListN.{replicate}
 use Rattle.numbers.specs.Numbers.{bigEndianBytes}
 use Rattle.crc32.specs.Crc32.{crc32}
-use Rattle.answers.specs.Answers.{answerRefusal}
+use Rattle.answers.specs.Answers.{answerRefusal, Naming, unnamed, named, answerSector}
 use Rattle.answers.specs.declared.{Answer.Answer, Numbered.Numbered}
 use Rattle.layout.specs.declared.{Opened.{Opened, the-variants.{Accepted, Refused}}, Layout.Layout}
 use Rattle.header.specs.Header.{trueMagic}
@@ -74,9 +74,14 @@ mappedTold (mapped.Refused number) = number ∷ []
 unfoldable pub tweakTold : Tweak → List ℕ
 tweakTold tweak = mappedTold (tweak .number) ++ tweak .block
 
--- the refusal number of a call on a view that was made, 0 for accepted
+-- what a case tells of a sector in the way: nothing, or the sector
+unfoldable pub sectorTold : Naming → List ℕ
+sectorTold unnamed = []
+sectorTold (named sector) = sector ∷ []
+
+-- .. and of a call on a view that was made: the refusal number, 0 for accepted, and the sector in the way
 unfoldable pub onView : Viewed → (View → Answer) → List ℕ
-onView (viewed.Made view) answer = answerRefusal (answer view) ∷ []
+onView (viewed.Made view) answer = answerRefusal (answer view) ∷ sectorTold (answerSector (answer view))
 onView (viewed.Refused number) answer = []
 
 -- the answer to a write, and to a read, on an image of M's size with a buffer of the extent's
@@ -111,14 +116,17 @@ cases =
     ∷ (mappedTold (userSector volumeM 256), 0 ∷ 0 ∷ [])
     -- M with N protected: a write that ends where N begins, and one that goes on into N
     ∷ (onView (protectedView volumeM volumeN) (writing 1023 1), 0 ∷ [])
-    ∷ (onView (protectedView volumeM volumeN) (writing 1023 2), 18 ∷ [])
+    ∷ (onView (protectedView volumeM volumeN) (writing 1023 2), 18 ∷ 1024 ∷ [])
     -- .. and through the view which that one leaves, a write and a read elsewhere
     ∷ (onView (protectedView volumeM volumeN) (λ view. writing 0 1 (leaving 1023 2 view)), 17 ∷ [])
     ∷ (onView (protectedView volumeM volumeN) (λ view. reading 0 1 (leaving 1023 2 view)), 0 ∷ [])
     -- M alone: no sector at its end, one sector there, and no sector past its end
     ∷ (onView (plainView volumeM) (writing 1536 0), 0 ∷ [])
-    ∷ (onView (plainView volumeM) (writing 1536 1), 16 ∷ [])
-    ∷ (onView (plainView volumeM) (writing 1537 0), 16 ∷ [])
+    ∷ (onView (plainView volumeM) (writing 1536 1), 16 ∷ 1536 ∷ [])
+    ∷ (onView (plainView volumeM) (writing 1537 0), 16 ∷ 1537 ∷ [])
+    -- .. a write that starts inside it, and the last sector that a call can name
+    ∷ (onView (plainView volumeM) (writing 1500 100), 16 ∷ 1536 ∷ [])
+    ∷ (onView (plainView volumeM) (writing (2 ^ 64 - 1) 128), 16 ∷ (2 ^ 64 - 1) ∷ [])
     ∷ []
 
 -- the claim: every case, and the map program's whole output for M, is as the rules say

@@ -3,7 +3,8 @@
 use borrow.Author.Needs.{needs}
 use native.Mathlib.Omega.{arith}
 use mathlib.Core.Path.{refl, sym, _∙_}
-use Rattle.judgement.proofs.{JudgingLaws.{read-passed, passed-moves}, OffsetLaws.{offset-given, offset-refused}}
+use Rattle.answers.specs.Answers.{isAccepted}
+use Rattle.judgement.proofs.{JudgingLaws.{read-passed, passed-moves}, PlacementLaws.{placed-accepted, placed-refused, placed-refused-at}}
 use Rattle.access.proofs.MovingLaws.{filled-accepted, filled-refused}
 use Rattle.access.proofs.read.Statement.{statement}
 use Rattle.access.proofs.read.Tie as tie
@@ -11,18 +12,21 @@ use Rattle.access.proofs.read.Tie as tie
 read-extent-requires : tie.Need-read-extent-requires
 read-extent-requires c κs = search needs
 
-enum-known-extent : tie.Need-enum-known-extent
-enum-known-extent c = search needs
+enum-known-placement : tie.Need-enum-known-placement
+enum-known-placement c = search needs
 
 fill-requires : tie.Need-fill-requires
 fill-requires c κs =
     let found = c .before .before in
-    let given = offset-given _ _ (found .before .before .read-extent .ensures) (found .extent .given .1) in
+    let given = placed-accepted _ _ (found .before .before .read-extent .ensures) (found .placement .given .1) in
     let moves = passed-moves _ _ _ _ _ _ (read-passed _ _ _ _ _ _ refl (given .0)) in
     (moves .0, omega (arith, given .1, moves .1))
 
-enum-known-extent-2 : tie.Need-enum-known-extent-2
-enum-known-extent-2 c = search needs
+enum-known-placement-2 : tie.Need-enum-known-placement-2
+enum-known-placement-2 c = search needs
+
+enum-known-placement-3 : tie.Need-enum-known-placement-3
+enum-known-placement-3 c = search needs
 
 same-length : tie.Need-same-length
 same-length c = search needs
@@ -31,24 +35,34 @@ returns : tie.Need-returns
 returns c =
     let fill = c .before .before in
     let found = fill .before .before .before in
-    let given = offset-given _ _ (found .before .before .read-extent .ensures) (found .extent .given .1) in
+    let given = placed-accepted _ _ (found .before .before .read-extent .ensures) (found .placement .given .1) in
     let passed = read-passed _ _ _ _ _ _ refl (given .0) in
     (sym (given .0), fill .fill .ensures ∙ filled-accepted _ _ _ _ _ _ _ refl (given .1) (passed .bufferWhole))
 
 returns-2 : tie.Need-returns-2
+unfolding isAccepted
 returns-2 c =
     let found = c .before .before .before in
-    let same = sym (offset-refused _ _ (found .read-extent .ensures) (c .before .extent2 .given .1)) in
-    (same, filled-refused _ _ _ _ _ _ _ refl)
+    let same = sym (placed-refused _ _ (found .read-extent .ensures) (c .before .placement2 .given .1)) in
+    (same, filled-refused _ _ _ _ _ _ refl)
+
+returns-3 : tie.Need-returns-3
+unfolding isAccepted
+returns-3 c =
+    let found = c .before .before .before in
+    let same = sym (placed-refused-at _ _ (found .read-extent .ensures) (c .before .placement3 .given .1)) in
+    (same, filled-refused _ _ _ _ _ _ refl)
 
 pub read-spec : {M : Type 1} → statement M
 read-spec =
     tie.close
     (tie.spec
     read-extent-requires
-    enum-known-extent
+    enum-known-placement
     fill-requires
-    enum-known-extent-2
+    enum-known-placement-2
+    enum-known-placement-3
     same-length
     returns
-    returns-2)
+    returns-2
+    returns-3)

@@ -3,7 +3,8 @@
 use borrow.Author.Needs.{needs}
 use native.Mathlib.Omega.{arith}
 use mathlib.Core.Path.{refl, sym, _∙_}
-use Rattle.judgement.proofs.{JudgingLaws.{write-passed, passed-moves}, OffsetLaws.{offset-given, offset-refused}}
+use Rattle.answers.specs.Answers.{isAccepted}
+use Rattle.judgement.proofs.{JudgingLaws.{write-passed, passed-moves}, PlacementLaws.{placed-accepted, placed-refused, placed-refused-at}}
 use Rattle.access.proofs.MovingLaws.{written-accepted, written-refused}
 use Rattle.access.proofs.write.Statement.{statement}
 use Rattle.access.proofs.write.Tie as tie
@@ -11,18 +12,21 @@ use Rattle.access.proofs.write.Tie as tie
 write-extent-requires : tie.Need-write-extent-requires
 write-extent-requires c κs = search needs
 
-enum-known-extent : tie.Need-enum-known-extent
-enum-known-extent c = search needs
+enum-known-placement : tie.Need-enum-known-placement
+enum-known-placement c = search needs
 
 lay-requires : tie.Need-lay-requires
 lay-requires c κs =
     let found = c .before .before in
-    let given = offset-given _ _ (found .before .before .write-extent .ensures) (found .extent .given .1) in
+    let given = placed-accepted _ _ (found .before .before .write-extent .ensures) (found .placement .given .1) in
     let moves = passed-moves _ _ _ _ _ _ (write-passed _ _ _ _ _ _ _ refl (given .0)) in
     (moves .0, omega (arith, given .1, moves .1))
 
-enum-known-extent-2 : tie.Need-enum-known-extent-2
-enum-known-extent-2 c = search needs
+enum-known-placement-2 : tie.Need-enum-known-placement-2
+enum-known-placement-2 c = search needs
+
+enum-known-placement-3 : tie.Need-enum-known-placement-3
+enum-known-placement-3 c = search needs
 
 same-length : tie.Need-same-length
 same-length c = search needs
@@ -31,23 +35,33 @@ returns : tie.Need-returns
 returns c =
     let lay = c .before .before in
     let found = lay .before .before .before in
-    let given = offset-given _ _ (found .before .before .write-extent .ensures) (found .extent .given .1) in
+    let given = placed-accepted _ _ (found .before .before .write-extent .ensures) (found .placement .given .1) in
     (sym (given .0), lay .lay .ensures ∙ written-accepted _ _ _ _ _ _ refl (given .1))
 
 returns-2 : tie.Need-returns-2
+unfolding isAccepted
 returns-2 c =
     let found = c .before .before .before in
-    let same = sym (offset-refused _ _ (found .write-extent .ensures) (c .before .extent2 .given .1)) in
-    (same, written-refused _ _ _ _ _ _ refl)
+    let same = sym (placed-refused _ _ (found .write-extent .ensures) (c .before .placement2 .given .1)) in
+    (same, written-refused _ _ _ _ _ refl)
+
+returns-3 : tie.Need-returns-3
+unfolding isAccepted
+returns-3 c =
+    let found = c .before .before .before in
+    let same = sym (placed-refused-at _ _ (found .write-extent .ensures) (c .before .placement3 .given .1)) in
+    (same, written-refused _ _ _ _ _ refl)
 
 pub write-spec : {M : Type 1} → statement M
 write-spec =
     tie.close
     (tie.spec
     write-extent-requires
-    enum-known-extent
+    enum-known-placement
     lay-requires
-    enum-known-extent-2
+    enum-known-placement-2
+    enum-known-placement-3
     same-length
     returns
-    returns-2)
+    returns-2
+    returns-3)

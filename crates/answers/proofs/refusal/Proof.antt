@@ -12,6 +12,9 @@ enum-told c = search needs
 enum-known-answer : tie.Need-enum-known-answer
 enum-known-answer c = search needs
 
+enum-known-answer-2 : tie.Need-enum-known-answer-2
+enum-known-answer-2 c = search needs
+
 returns : tie.Need-returns
 unfolding answerRefusal
 returns c = rw (c .enum-told .given .1) refl
@@ -20,5 +23,9 @@ returns-2 : tie.Need-returns-2
 unfolding answerRefusal
 returns-2 c = rw (c .before .answer .given .1) refl
 
+returns-3 : tie.Need-returns-3
+unfolding answerRefusal
+returns-3 c = rw (c .before .answer2 .given .1) refl
+
 pub refusal-spec : {M : Type 1} → statement M
-refusal-spec = tie.close (tie.spec enum-told enum-known-answer returns returns-2)
+refusal-spec = tie.close (tie.spec enum-told enum-known-answer enum-known-answer-2 returns returns-2 returns-3)

@@ -1,7 +1,7 @@
--- `boundary_access::read_extent` meets its contract: the offset of the view that the numbers tell.
+-- `boundary_access::read_extent` meets its contract: the placement of the view that the numbers tell.
 -- Assumes nothing.
-use borrow.Author.Needs.{needs}
 use Rattle.boundary_access.proofs.ToldViewLaws.{read-extent-call}
+use borrow.Author.Needs.{needs}
 use Rattle.boundary_access.proofs.read_extent.Statement.{statement}
 use Rattle.boundary_access.proofs.read_extent.Tie as tie
 
@@ -11,13 +11,13 @@ view-from-requires c κs = search needs
 read-extent-requires : tie.Need-read-extent-requires
 read-extent-requires c κs = search needs
 
-give-number-requires : tie.Need-give-number-requires
-give-number-requires c κs = search needs
+give-placement-requires : tie.Need-give-placement-requires
+give-placement-requires c κs = search needs
 
 returns : tie.Need-returns
 returns c =
-    let placed = c .before .before in
-    read-extent-call _ _ _ _ _ _ (placed .before .view-from .ensures) _ (placed .read-extent .ensures) _ _ _ (c .give-number .ensures)
+    let placed = c .before .before .before in
+    read-extent-call _ _ _ _ _ _ (placed .before .view-from .ensures) _ _ _ _ _ _ (c .give-placement .ensures) (placed .read-extent .ensures)
 
 pub read-extent-spec : {M : Type 1} → statement M
 read-extent-spec =
@@ -25,5 +25,5 @@ read-extent-spec =
     (tie.spec
     view-from-requires
     read-extent-requires
-    give-number-requires
+    give-placement-requires
     returns)

@@ -2,8 +2,9 @@
 use Rattle.guarantees.proofs.Access.{accesses-by-table}
 use Rattle.guarantees.proofs.Boundary.{tells-numbers, returns-zero, orders-numbers, stores-answers}
 use Rattle.guarantees.proofs.BoundaryRuns.{carries-runs, begins-runs}
-use Rattle.guarantees.proofs.Extents.{shares-least}
+use Rattle.guarantees.proofs.Extents.{shares-least, ends-by}
 use Rattle.guarantees.proofs.FromHeaders.{from-headers}
+use Rattle.guarantees.proofs.InTheWay.{names-sectors}
 use Rattle.guarantees.proofs.Interleaving.{demand-3}
 use Rattle.guarantees.proofs.Judging.{keeps-rules, judges-exactly, gives-keys}
 use Rattle.guarantees.proofs.LaysHeaders.{lays-headers}
@@ -27,6 +28,7 @@ returns c =
       checksum = checks-bytes;
       rules = keeps-rules;
       extents = shares-least;
+      ends = ends-by;
       judges = judges-exactly;
       locates = locates-headers;
       opens = opens-exactly-when;
@@ -40,6 +42,7 @@ returns c =
       views = makes-views;
       parts = keeps-parts;
       accesses = accesses-by-table;
+      named = names-sectors;
       placed = places-extents;
       demand3 = demand-3;
       fromHeaders = from-headers;

@@ -1,14 +1,17 @@
 -- `judgement::judge_lock` meets its contract: the lock, then what the extent shares with the protected range.
 -- Assumes nothing.
 use borrow.Author.Needs.{needs}
-use mathlib.Core.Path.{sym, _∙_}
-use Rattle.judgement.specs.Judging.{apartAnswer, lockAnswer}
+use mathlib.Core.Path.{refl, ap, _∙_}
+use Rattle.answers.specs.declared.Answer.the-variants.{Accepted}
+use Rattle.extent.specs.Extents.{overlap}
+use Rattle.judgement.specs.Judging.{lockAnswer}
+use Rattle.judgement.proofs.JudgingLaws.{blocked-apart, blocked-from, unlocked}
 use Rattle.judgement.proofs.judge_lock.Statement.{statement}
 use Rattle.judgement.proofs.judge_lock.Tie as tie
 
 returns : tie.Need-returns
 unfolding lockAnswer
-returns c = simp (c .if1 .taken)
+returns c = rw (c .if1 .taken) refl
 
 protected-extent-requires : tie.Need-protected-extent-requires
 protected-extent-requires c κs = search needs
@@ -19,22 +22,25 @@ first-shared-requires c κs = search needs
 enum-told : tie.Need-enum-told
 enum-told c = search needs
 
-enum-told-2 : tie.Need-enum-told-2
-enum-told-2 c = search needs
+enum-known-shared : tie.Need-enum-known-shared
+enum-known-shared c = search needs
 
 returns-2 : tie.Need-returns-2
-unfolding lockAnswer apartAnswer
+unfolding lockAnswer
 returns-2 c =
     let shared = c .before .before in
     let protected = shared .before in
-    simp (protected .before .if1 .left, ← protected .protected-extent .ensures, ← shared .first-shared .ensures, c .enum-told .given .1)
+    let finds = shared .first-shared .ensures ∙ ap (overlap _) (protected .protected-extent .ensures) in
+    unlocked _ (protected .before .if1 .left) (blocked-apart 18 Accepted finds (c .enum-told .given .1))
 
 returns-3 : tie.Need-returns-3
-unfolding lockAnswer apartAnswer
+unfolding lockAnswer
 returns-3 c =
-    let shared = c .before .before in
+    let found = c .before in
+    let shared = found .before .before in
     let protected = shared .before in
-    simp (protected .before .if1 .left, ← protected .protected-extent .ensures, ← shared .first-shared .ensures, c .enum-told2 .given .1)
+    let finds = shared .first-shared .ensures ∙ ap (overlap _) (protected .protected-extent .ensures) in
+    unlocked _ (protected .before .if1 .left) (blocked-from 18 Accepted finds (found .shared .given .1))
 
 pub judge-lock-spec : {M : Type 1} → statement M
 judge-lock-spec =
@@ -44,6 +50,6 @@ judge-lock-spec =
     protected-extent-requires
     first-shared-requires
     enum-told
-    enum-told-2
+    enum-known-shared
     returns-2
     returns-3)

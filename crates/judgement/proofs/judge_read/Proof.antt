@@ -56,20 +56,12 @@ returns-4 c =
     let two = c .before .before in
     simp (both-sound (two .before .before), eq-eqb _ _ (two .if2 .left), le-leb _ _ (c .before .if3 .left), ne-eqb _ _ (c .if4 .taken))
 
-is-inside-requires : tie.Need-is-inside-requires
-is-inside-requires c κs = search needs
+judge-end-requires : tie.Need-judge-end-requires
+judge-end-requires c κs = search needs
 
 returns-5 : tie.Need-returns-5
 unfolding readAnswer checked
-returns-5 c =
-    let p = four-passed (c .before .before) in
-    simp (p .0, p .1, p .2, p .3, sym (c .before .is-inside .ensures) ∙ not-true _ (c .if5 .taken))
-
-returns-6 : tie.Need-returns-6
-unfolding readAnswer checked
-returns-6 c =
-    let p = four-passed (c .before .before) in
-    simp (p .0, p .1, p .2, p .3, sym (c .before .is-inside .ensures) ∙ not-false _ (c .if5 .left))
+returns-5 c = let p = four-passed (c .before) in simp (p .0, p .1, p .2, p .3) (c .judge-end .ensures)
 
 pub judge-read-spec : {M : Type 1} → statement M
 judge-read-spec =
@@ -81,6 +73,5 @@ judge-read-spec =
     returns-3
     mul-if4
     returns-4
-    is-inside-requires
-    returns-5
-    returns-6)
+    judge-end-requires
+    returns-5)

@@ -1,7 +1,8 @@
 -- `judgement::judge_write` meets its contract: the checks of every call, then those of a write.
 -- Assumes nothing.
 use borrow.Author.Needs.{needs}
-use mathlib.Core.Path.{_∙_}
+use mathlib.Core.Path.{refl, _∙_}
+use Rattle.answers.specs.Answers.{isAccepted}
 use Rattle.judgement.specs.Judging.{writeAnswer}
 use Rattle.judgement.proofs.JudgingLaws.{read-passed, checked-passed, checked-refused}
 use Rattle.judgement.proofs.judge_write.Statement.{statement}
@@ -19,6 +20,9 @@ judge-lock-requires c κs = search needs
 enum-told-2 : tie.Need-enum-told-2
 enum-told-2 c = search needs
 
+enum-told-3 : tie.Need-enum-told-3
+enum-told-3 c = search needs
+
 returns : tie.Need-returns
 unfolding writeAnswer
 returns c =
@@ -28,12 +32,14 @@ returns c =
     c .judge-lock .ensures ∙ checked-passed _ _ _ _ _ _ passed _
 
 returns-2 : tie.Need-returns-2
-unfolding writeAnswer
-returns-2 c =
-    let read = c .before .before in
-    checked-refused _ _ _ _ _ _ _ (read .judge-read .ensures) (c .enum-told2 .given .1)
+unfolding writeAnswer isAccepted
+returns-2 c = checked-refused _ _ _ _ _ _ _ (c .before .before .judge-read .ensures) (c .enum-told2 .given .1) refl
+
+returns-3 : tie.Need-returns-3
+unfolding writeAnswer isAccepted
+returns-3 c = checked-refused _ _ _ _ _ _ _ (c .before .before .judge-read .ensures) (c .enum-told3 .given .1) refl
 
 pub judge-write-spec : {M : Type 1} → statement M
 judge-write-spec =
     tie.close
-    (tie.spec judge-read-requires enum-told judge-lock-requires enum-told-2 returns returns-2)
+    (tie.spec judge-read-requires enum-told judge-lock-requires enum-told-2 enum-told-3 returns returns-2 returns-3)

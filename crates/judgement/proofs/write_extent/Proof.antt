@@ -1,44 +1,23 @@
--- `judgement::write_extent` meets its contract: the write's own answer, and an accepted extent's first byte.
+-- `judgement::write_extent` meets its contract: the write's own answer, and where it places the extent.
 -- Assumes nothing.
 use borrow.Author.Needs.{needs}
-use mathlib.Core.Path.{sym, ap, _∙_}
-use Rattle.answers.specs.declared.Numbered.the-variants.{Number}
-use Rattle.judgement.proofs.{JudgingLaws.{write-passed, passed-starts}, OffsetLaws.{accepted-offset, refused-offset}}
+use mathlib.Core.Path.{ap, _∙_}
+use Rattle.answers.specs.declared.Answer.{Answer}
+use Rattle.judgement.specs.Offsets.{placedBy}
+use Rattle.judgement.proofs.JudgingLaws.{write-passed, passed-starts}
 use Rattle.judgement.proofs.write_extent.Statement.{statement}
 use Rattle.judgement.proofs.write_extent.Tie as tie
 
 judge-write-requires : tie.Need-judge-write-requires
 judge-write-requires c κs = search needs
 
-enum-told : tie.Need-enum-told
-enum-told c = search needs
-
-extent-start-requires : tie.Need-extent-start-requires
-extent-start-requires c κs =
-    passed-starts _ _ _ _ _ _ (write-passed _ _ _ _ _ _ _ (c .before .before .judge-write .ensures) (c .enum-told .given .1))
-
-enum-known-answer : tie.Need-enum-known-answer
-enum-known-answer c = search needs
+place-requires : tie.Need-place-requires
+place-requires c κs = λ e. passed-starts _ _ _ _ _ _ (write-passed _ _ _ _ _ _ _ (c .judge-write .ensures) e)
 
 returns : tie.Need-returns
 returns c =
-    let accepted = c .before in
-    let judged = accepted .before .before in
-    ap Number (c .extent-start .ensures)
-    ∙ accepted-offset _ _ (sym (judged .judge-write .ensures) ∙ accepted .enum-told .given .1)
-
-returns-2 : tie.Need-returns-2
-returns-2 c =
-    let refused = c .before in
-    refused-offset _ _ (sym (refused .before .before .judge-write .ensures) ∙ refused .answer .given .1)
+    let a = c .before .before .args in
+    c .place .ensures ∙ ap (λ (answer : Answer). placedBy answer (a .layout) (a .first)) (c .before .judge-write .ensures)
 
 pub write-extent-spec : {M : Type 1} → statement M
-write-extent-spec =
-    tie.close
-    (tie.spec
-    judge-write-requires
-    enum-told
-    extent-start-requires
-    enum-known-answer
-    returns
-    returns-2)
+write-extent-spec = tie.close (tie.spec judge-write-requires place-requires returns)

@@ -18,26 +18,26 @@ enum-told c = search needs
 add-end : tie.Need-add-end
 add-end c =
     let accepted = c .before in
-    let pair = accepted .before .before in
-    let kept = pair-hidden-sound _ _ (pair .check-pair .ensures) (accepted .enum-told .given .1) in
+    let checked = accepted .before .before in
+    let kept = pair-hidden-sound _ _ (checked .check-pair .ensures) (accepted .enum-told .given .1) in
     record { fits = omega (arith, sound-end-le _ kept) }
 
-enum-known-answer : tie.Need-enum-known-answer
-enum-known-answer c = search needs
+enum-known-pair : tie.Need-enum-known-pair
+enum-known-pair c = search needs
 
 returns : tie.Need-returns
 unfolding protectedView protectedOf madeBy areaEnd
 returns c =
     let accepted = c .before in
-    let pair = accepted .before .before in
-    simp (← pair .check-pair .ensures, accepted .enum-told .given .1)
+    let checked = accepted .before .before in
+    simp (← checked .check-pair .ensures, accepted .enum-told .given .1)
 
 returns-2 : tie.Need-returns-2
 unfolding protectedView madeBy
 returns-2 c =
     let refused = c .before in
-    simp (← refused .before .before .check-pair .ensures, refused .answer .given .1)
+    simp (← refused .before .before .check-pair .ensures, refused .pair .given .1)
 
 pub protected-spec : {M : Type 1} → statement M
 protected-spec =
-    tie.close (tie.spec check-pair-requires enum-told add-end enum-known-answer returns returns-2)
+    tie.close (tie.spec check-pair-requires enum-told add-end enum-known-pair returns returns-2)

@@ -4,7 +4,7 @@ use mathlib.Core.{Path.{_≡_, sym, _∙_}, Bool.true}
 use borrow.Author.Needs.{needs}
 use borrow.Author.Tests.{not-true, not-false}
 use Rattle.layout.specs.Rules.{sound}
-use Rattle.protection.specs.Protection.{pairAnswer}
+use Rattle.protection.specs.Protection.{paired}
 use Rattle.protection.proofs.check_pair.Statement.{statement}
 use Rattle.protection.proofs.check_pair.Tie as tie
 
@@ -19,27 +19,27 @@ is-sound-requires : tie.Need-is-sound-requires
 is-sound-requires c κs = search needs
 
 returns : tie.Need-returns
-unfolding pairAnswer
+unfolding paired
 returns c = simp (sym (c .before .is-sound .ensures) ∙ not-true _ (c .if1 .taken))
 
 is-sound-requires-2 : tie.Need-is-sound-requires-2
 is-sound-requires-2 c κs = search needs
 
 returns-2 : tie.Need-returns-2
-unfolding pairAnswer
+unfolding paired
 returns-2 c = simp (outer-sound (c .before .before), sym (c .before .is-sound2 .ensures) ∙ not-true _ (c .if2 .taken))
 
 do-nest-requires : tie.Need-do-nest-requires
 do-nest-requires c κs = search needs
 
 returns-3 : tie.Need-returns-3
-unfolding pairAnswer
+unfolding paired
 returns-3 c =
     let two = c .before .before in
     simp (outer-sound (two .before .before), hidden-sound two, sym (c .before .do-nest .ensures) ∙ not-true _ (c .if3 .taken))
 
 returns-4 : tie.Need-returns-4
-unfolding pairAnswer
+unfolding paired
 returns-4 c =
     let two = c .before .before in
     simp (outer-sound (two .before .before), hidden-sound two, sym (c .before .do-nest .ensures) ∙ not-false _ (c .if3 .left))

@@ -2,8 +2,8 @@
 -- Assumes nothing.
 use borrow.Author.Needs.{needs}
 use mathlib.Core.Path.{refl, ap, _∙_}
-use Rattle.answers.specs.Answers.{numberedRefusal}
-use Rattle.judgement.proofs.OffsetLaws.{offset-number}
+use Rattle.answers.specs.Answers.{placementRefusal}
+use Rattle.judgement.proofs.PlacementLaws.{placed-number}
 use Rattle.view.specs.Outcomes.{after, writePlaced}
 use Rattle.view.proofs.View.write_extent.Statement.{statement}
 use Rattle.view.proofs.View.write_extent.Tie as tie
@@ -11,8 +11,8 @@ use Rattle.view.proofs.View.write_extent.Tie as tie
 write-extent-requires : tie.Need-write-extent-requires
 write-extent-requires c κs = search needs
 
-numbered-refusal-requires : tie.Need-numbered-refusal-requires
-numbered-refusal-requires c κs = search needs
+placement-refusal-requires : tie.Need-placement-refusal-requires
+placement-refusal-requires c κs = search needs
 
 locked-after-requires : tie.Need-locked-after-requires
 locked-after-requires c κs = search needs
@@ -22,8 +22,8 @@ unfolding writePlaced after
 returns c =
     let number = c .before in
     let placed = number .before in
-    let same = number .numbered-refusal .ensures ∙ ap numberedRefusal (placed .write-extent .ensures) ∙ offset-number _ _ _ in
+    let same = number .placement-refusal .ensures ∙ ap placementRefusal (placed .write-extent .ensures) ∙ placed-number _ _ _ in
     rw (c .locked-after .ensures, same, placed .write-extent .ensures) refl
 
 pub write-extent-spec : {M : Type 1} → statement M
-write-extent-spec = tie.close (tie.spec write-extent-requires numbered-refusal-requires locked-after-requires returns)
+write-extent-spec = tie.close (tie.spec write-extent-requires placement-refusal-requires locked-after-requires returns)

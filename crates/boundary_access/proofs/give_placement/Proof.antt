@@ -1,0 +1,48 @@
+-- `boundary_access::give_placement` meets its contract, by the cases of the placement.
+-- Assumes nothing.
+use mathlib.Core.Path.{refl}
+use Rattle.answers.specs.Answers.{placementRefusal, placementSector}
+use Rattle.boundary_access.specs.BoundaryAccess.{sectorLeft, offsetLeft}
+use borrow.Author.Needs.{needs}
+use Rattle.boundary_access.proofs.give_placement.Statement.{statement}
+use Rattle.boundary_access.proofs.give_placement.Tie as tie
+
+enum-known-placement : tie.Need-enum-known-placement
+enum-known-placement c = search needs
+
+enum-known-placement-2 : tie.Need-enum-known-placement-2
+enum-known-placement-2 c = search needs
+
+cast-result : tie.Need-cast-result
+cast-result c = search needs
+
+enum-known-placement-3 : tie.Need-enum-known-placement-3
+enum-known-placement-3 c = search needs
+
+cast-result-2 : tie.Need-cast-result-2
+cast-result-2 c = search needs
+
+returns : tie.Need-returns
+unfolding placementRefusal placementSector sectorLeft offsetLeft
+returns c = rw (c .before .before .placement .given .1) (refl, (refl, refl))
+
+returns-2 : tie.Need-returns-2
+unfolding placementRefusal placementSector sectorLeft offsetLeft
+returns-2 c = rw (c .before .placement2 .given .1) (refl, (refl, refl))
+
+returns-3 : tie.Need-returns-3
+unfolding placementRefusal placementSector sectorLeft offsetLeft
+returns-3 c = rw (c .before .before .placement3 .given .1) (refl, (refl, refl))
+
+pub give-placement-spec : {M : Type 1} → statement M
+give-placement-spec =
+    tie.close
+    (tie.spec
+    enum-known-placement
+    enum-known-placement-2
+    cast-result
+    enum-known-placement-3
+    cast-result-2
+    returns
+    returns-2
+    returns-3)
