@@ -7,8 +7,10 @@
  *
  * Answers. Every function but ondristela_crc32 returns ONDRISTELA_ACCEPTED, which is 0, or one refusal,
  * ONDRISTELA_REFUSED_..: of those that apply, the first in the order that the function's comment gives. A
- * refusal leaves all memory as it was, except that ONDRISTELA_REFUSED_PROTECTED sets the view's `locked`.
- * ondristela_refusal_text, which this header defines, gives the sentence for an answer.
+ * refusal leaves all memory as it was, with two exceptions. ONDRISTELA_REFUSED_PROTECTED sets the view's
+ * `locked`. Where a function takes `sector`, ONDRISTELA_REFUSED_OUTSIDE and ONDRISTELA_REFUSED_PROTECTED set
+ * *sector to the first user sector that was in the way. ondristela_refusal_text, which this header defines,
+ * gives the sentence for an answer.
  *
  * What the caller owes, and the proof cannot check:
  * - No pointer is null. Each is aligned for its type, and valid for it or for the length that follows. With a
@@ -18,12 +20,12 @@
  * - During a call no other thread writes memory that was passed to it, or reads what was passed for writing.
  *   The library has no state of its own.
  *
- * Example. Writes one sector of an outer volume and never harms the hidden one; returns NULL, or why nothing
- * was written. Each header is 512 deciphered bytes.
+ * Example. Writes sectors of an outer volume and never harms the hidden one; returns NULL, or why nothing was
+ * written. *sector is then the first sector that was in the way, if one was. Each header is 512 deciphered bytes.
  *
- *     static const char *write_outer_sector(uint8_t *image, size_t image_size, const uint8_t *outer_header,
- *                                           const uint8_t *hidden_header, uint64_t sector,
- *                                           const uint8_t *bytes)
+ *     static const char *write_outer_sectors(uint8_t *image, size_t image_size, const uint8_t *outer_header,
+ *                                            const uint8_t *hidden_header, uint64_t first, uint64_t count,
+ *                                            const uint8_t *bytes, uint64_t *sector)
  *     {
  *         const uint8_t outer_code = ONDRISTELA_LOCATION_STANDARD;
  *         const uint8_t hidden_code = ONDRISTELA_LOCATION_HIDDEN;
@@ -38,11 +40,14 @@
  *             return "the hidden volume does not open";
  *         if (ondristela_view_protected(&outer, &hidden, &view) != ONDRISTELA_ACCEPTED)
  *             return "the hidden volume does not lie in the outer one";
- *         switch (ondristela_write(&view, image, image_size, sector, 1, bytes, ONDRISTELA_SECTOR_SIZE)) {
+ *         if (count > ONDRISTELA_MAX_COUNT)
+ *             return "so many sectors take several calls";
+ *         switch (ondristela_write(&view, image, image_size, first, count, bytes,
+ *                                  count * ONDRISTELA_SECTOR_SIZE, sector)) {
  *         case ONDRISTELA_ACCEPTED:
  *             return NULL;
  *         case ONDRISTELA_REFUSED_PROTECTED:
- *             return "the sector is the hidden volume's; the view takes no more writes";
+ *             return "that sector is the hidden volume's; the view takes no more writes";
  *         default:
  *             return "the outer volume has no such sector";
  *         }
@@ -137,14 +142,16 @@ extern "C" {
 #define ONDRISTELA_REFUSED_BUFFER_SIZE 15
 
 /* First and count add up to more sectors than the volume has; in the map, the user sector is not below
- * that number, or the host sector lies outside the data area. */
+ * that number, or the host sector lies outside the data area. The sector in the way is told: the first
+ * user sector past the volume's end, or first itself if that is later; the map tells none. */
 #define ONDRISTELA_REFUSED_OUTSIDE 16
 
 /* The view's write lock is closed, as refusal 18 leaves it; nothing was written, and reads still work. */
 #define ONDRISTELA_REFUSED_LOCKED 17
 
 /* A sector of the write lies in the protected range, which holds the hidden volume; nothing was written,
- * and the view now refuses every write. */
+ * and the view now refuses every write. The sector in the way is told: the first user sector of the
+ * protected range, or first itself if that is later. */
 #define ONDRISTELA_REFUSED_PROTECTED 18
 
 /* The magic of the header to be written is neither VERA nor TRUE. */
@@ -267,29 +274,35 @@ uint64_t ondristela_view_protected(const struct ondristela_layout *outer,
 
 /* Fills the buffer with `count` sectors of the image, from user sector `first` on. The image is the whole
  * host, the buffer 512 bytes for each sector. Neither the protected range nor the write lock hinders a read.
- * Refusals: 11, 13, 14, 15, 16. They leave the buffer as it was. */
+ * Refusals: 11, 13, 14, 15, 16. They leave the buffer as it was.
+ * 16 sets *sector to the first user sector of the extent that is past the volume's end: the larger of `first` and
+ * data_size / 512, which for a count of 0 is `first`. Every other answer leaves *sector as it was. */
 uint64_t ondristela_read(const struct ondristela_view *view, const uint8_t *image, size_t image_size,
-                         uint64_t first, uint64_t count, uint8_t *buffer, size_t buffer_size);
+                         uint64_t first, uint64_t count, uint8_t *buffer, size_t buffer_size,
+                         uint64_t *sector);
 
 /* Copies the buffer into `count` sectors of the image, from user sector `first` on, and changes nothing else.
  * Image and buffer are as for ondristela_read.
  * Refusals: 11, 13, 14, 15, 16, 17, 18. They leave the image as it was, and the view too, except that 18 sets
- * its `locked` to 1: every later write is refused. A count of 0 is never refused 18. */
+ * its `locked` to 1: every later write is refused. A count of 0 is never refused 18.
+ * 16 sets *sector as for ondristela_read, and 18 to the first user sector of the extent that is protected: the
+ * larger of `first` and (protected_first - data_start) / 512. Every other answer leaves *sector as it was. */
 uint64_t ondristela_write(struct ondristela_view *view, uint8_t *image, size_t image_size, uint64_t first,
-                          uint64_t count, const uint8_t *buffer, size_t buffer_size);
+                          uint64_t count, const uint8_t *buffer, size_t buffer_size, uint64_t *sector);
 
 /* For a caller that moves the bytes itself, with pread and pwrite or on a disk too large to map. Stores where in
  * the host the `count` sectors from user sector `first` on begin, for an image and a buffer of these sizes: the
  * `buffer_size` bytes from *offset on, which lie inside the host, are what ondristela_read would give.
- * Refusals: those of ondristela_read with such sizes. They leave *offset as it was. */
+ * Refusals: those of ondristela_read with such sizes. They leave *offset as it was. *sector is set and left as
+ * by ondristela_read. */
 uint64_t ondristela_read_extent(const struct ondristela_view *view, uint64_t image_size, uint64_t first,
-                                uint64_t count, uint64_t buffer_size, uint64_t *offset);
+                                uint64_t count, uint64_t buffer_size, uint64_t *offset, uint64_t *sector);
 
 /* The same for a write: the buffer's bytes stored from *offset on are what ondristela_write would leave.
  * Refusals: those of ondristela_write with such sizes. They leave *offset as it was, and the view too, except
- * that 18 sets its `locked` to 1. */
+ * that 18 sets its `locked` to 1. *sector is set and left as by ondristela_write. */
 uint64_t ondristela_write_extent(struct ondristela_view *view, uint64_t image_size, uint64_t first,
-                                 uint64_t count, uint64_t buffer_size, uint64_t *offset);
+                                 uint64_t count, uint64_t buffer_size, uint64_t *offset, uint64_t *sector);
 
 /* CRC-32 of ITU-T V.42, the checksum in headers: 0xCBF43926 for the nine bytes "123456789". */
 uint32_t ondristela_crc32(const uint8_t *bytes, size_t bytes_size);

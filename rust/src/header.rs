@@ -82,7 +82,7 @@ impl<'a> NewHeader<'a> {
     /// Writes these bytes over `header`, which is 512 bytes long. Refusals are `Lengths`, `HostSize`, `Version` and
     /// `DataArea`, tested in this order; they leave `header` as it was.
     pub fn write(&self, header: &mut [u8]) -> Result<(), Refusal> {
-        Refusal::check(raw::write_header(
+        let answer = raw::write_header(
             &self.magic.letters(),
             self.version,
             self.min_program_version,
@@ -93,6 +93,7 @@ impl<'a> NewHeader<'a> {
             self.salt,
             self.keys,
             header,
-        ))
+        );
+        Refusal::check(answer, None)
     }
 }

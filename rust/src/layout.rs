@@ -92,21 +92,21 @@ impl Layout {
     /// The host sector that holds a user sector.
     pub fn host_sector(&self, user: u64) -> Result<u64, Refusal> {
         let mut host = [0];
-        Refusal::check(raw::host_sector(&self.numbers(), user, &mut host))?;
+        Refusal::check(raw::host_sector(&self.numbers(), user, &mut host), None)?;
         Ok(host[0])
     }
 
     /// The user sector that a host sector holds.
     pub fn user_sector(&self, host: u64) -> Result<u64, Refusal> {
         let mut user = [0];
-        Refusal::check(raw::user_sector(&self.numbers(), host, &mut user))?;
+        Refusal::check(raw::user_sector(&self.numbers(), host, &mut user), None)?;
         Ok(user[0])
     }
 
     /// The tweak block of a user sector: its host sector's number, little-endian, in 16 bytes.
     pub fn tweak(&self, user: u64) -> Result<[u8; 16], Refusal> {
         let mut block = [0; 16];
-        Refusal::check(raw::tweak(&self.numbers(), user, &mut block))?;
+        Refusal::check(raw::tweak(&self.numbers(), user, &mut block), None)?;
         Ok(block)
     }
 }

@@ -18,6 +18,9 @@
 //! # }
 //! ```
 //!
+//! A read or write that reaches past the volume's end, and a write that would touch the hidden volume, are refused
+//! with the sector in the way: [`Refusal::Outside`], [`Refusal::Protected`].
+//!
 //! [`NewHeader`] writes the header of a new volume, which [`open`] then accepts.
 //!
 //! A disk that is too large to map is read and written by the caller itself, where the view says. A write asks

@@ -37,7 +37,7 @@ impl Location {
     /// The header's first byte in a host of this size.
     pub fn offset(self, host_size: u64) -> Result<u64, Refusal> {
         let mut offset = [0];
-        Refusal::check(raw::location(self.code(), host_size, &mut offset))?;
+        Refusal::check(raw::location(self.code(), host_size, &mut offset), None)?;
         Ok(offset[0])
     }
 }
@@ -47,14 +47,14 @@ impl Location {
 /// header gives the refusal.
 pub fn open(candidates: &[u8], codes: &[u8], host_size: u64) -> Result<Layout, Refusal> {
     let mut numbers = [0; 8];
-    Refusal::check(raw::open(candidates, codes, host_size, &mut numbers))?;
+    Refusal::check(raw::open(candidates, codes, host_size, &mut numbers), None)?;
     Ok(Layout::opened(&numbers))
 }
 
 /// The 256 key bytes of the candidate that `open` accepts: a part of `candidates`, not a copy.
 pub fn key_bytes<'a>(candidates: &'a [u8], codes: &[u8], host_size: u64) -> Result<&'a [u8], Refusal> {
     let mut range = [0; 2];
-    Refusal::check(raw::keys(candidates, codes, host_size, &mut range))?;
+    Refusal::check(raw::keys(candidates, codes, host_size, &mut range), None)?;
     let [offset, size] = range.map(|number| number as usize);
     Ok(&candidates[offset..offset + size])
 }

@@ -1,8 +1,9 @@
 //! The library's functions as they are: numbers and slices, and a refusal number as the answer.
 //!
 //! Each returns 0 where it accepts and else a refusal number (docs/RULES.md). A refusal changes nothing that
-//! was passed for writing, but for 18, which sets the view's last number. The functions are safe for any
-//! arguments: every one is proved with no condition on them.
+//! was passed for writing, but for two: 16 and 18 store the sector in the way in `sector`, where a call has it,
+//! and 18 sets the view's last number. Every other answer leaves `sector` as it was. The functions are safe for
+//! any arguments: every one is proved with no condition on them.
 
 /// A layout's numbers: host size, kind, magic, version, min program version, data start, data size,
 /// candidate.
@@ -27,10 +28,10 @@ mod library {
         pub fn ondristela_tweak(layout: *const LayoutNumbers, user: u64, block: *mut [u8; 16]) -> u64;
         pub fn ondristela_view_plain(layout: *const LayoutNumbers, view: *mut ViewNumbers) -> u64;
         pub fn ondristela_view_protected(outer: *const LayoutNumbers, hidden: *const LayoutNumbers, view: *mut ViewNumbers) -> u64;
-        pub fn ondristela_read(view: *const ViewNumbers, image: *const u8, image_size: usize, first: u64, count: u64, buffer: *mut u8, buffer_size: usize) -> u64;
-        pub fn ondristela_write(view: *mut ViewNumbers, image: *mut u8, image_size: usize, first: u64, count: u64, buffer: *const u8, buffer_size: usize) -> u64;
-        pub fn ondristela_read_extent(view: *const ViewNumbers, image_size: u64, first: u64, count: u64, buffer_size: u64, offset: *mut [u64; 1]) -> u64;
-        pub fn ondristela_write_extent(view: *mut ViewNumbers, image_size: u64, first: u64, count: u64, buffer_size: u64, offset: *mut [u64; 1]) -> u64;
+        pub fn ondristela_read(view: *const ViewNumbers, image: *const u8, image_size: usize, first: u64, count: u64, buffer: *mut u8, buffer_size: usize, sector: *mut [u64; 1]) -> u64;
+        pub fn ondristela_write(view: *mut ViewNumbers, image: *mut u8, image_size: usize, first: u64, count: u64, buffer: *const u8, buffer_size: usize, sector: *mut [u64; 1]) -> u64;
+        pub fn ondristela_read_extent(view: *const ViewNumbers, image_size: u64, first: u64, count: u64, buffer_size: u64, offset: *mut [u64; 1], sector: *mut [u64; 1]) -> u64;
+        pub fn ondristela_write_extent(view: *mut ViewNumbers, image_size: u64, first: u64, count: u64, buffer_size: u64, offset: *mut [u64; 1], sector: *mut [u64; 1]) -> u64;
         pub fn ondristela_crc32(bytes: *const u8, bytes_size: usize) -> u32;
     }
 }
@@ -130,7 +131,14 @@ pub fn view_protected(outer: &LayoutNumbers, hidden: &LayoutNumbers, view: &mut 
 }
 
 /// Fills the buffer with `count` sectors of the image, from user sector `first` on.
-pub fn read(view: &ViewNumbers, image: &[u8], first: u64, count: u64, buffer: &mut [u8]) -> u64 {
+pub fn read(
+    view: &ViewNumbers,
+    image: &[u8],
+    first: u64,
+    count: u64,
+    buffer: &mut [u8],
+    sector: &mut [u64; 1],
+) -> u64 {
     unsafe {
         library::ondristela_read(
             view,
@@ -140,12 +148,20 @@ pub fn read(view: &ViewNumbers, image: &[u8], first: u64, count: u64, buffer: &m
             count,
             buffer.as_mut_ptr(),
             buffer.len(),
+            sector,
         )
     }
 }
 
 /// Copies the buffer into `count` sectors of the image, from user sector `first` on.
-pub fn write(view: &mut ViewNumbers, image: &mut [u8], first: u64, count: u64, buffer: &[u8]) -> u64 {
+pub fn write(
+    view: &mut ViewNumbers,
+    image: &mut [u8],
+    first: u64,
+    count: u64,
+    buffer: &[u8],
+    sector: &mut [u64; 1],
+) -> u64 {
     unsafe {
         library::ondristela_write(
             view,
@@ -155,6 +171,7 @@ pub fn write(view: &mut ViewNumbers, image: &mut [u8], first: u64, count: u64, b
             count,
             buffer.as_ptr(),
             buffer.len(),
+            sector,
         )
     }
 }
@@ -167,8 +184,9 @@ pub fn read_extent(
     count: u64,
     buffer_size: u64,
     offset: &mut [u64; 1],
+    sector: &mut [u64; 1],
 ) -> u64 {
-    unsafe { library::ondristela_read_extent(view, image_size, first, count, buffer_size, offset) }
+    unsafe { library::ondristela_read_extent(view, image_size, first, count, buffer_size, offset, sector) }
 }
 
 /// Where a write puts its bytes: the extent's first byte in the host. It is judged as the write is.
@@ -179,8 +197,9 @@ pub fn write_extent(
     count: u64,
     buffer_size: u64,
     offset: &mut [u64; 1],
+    sector: &mut [u64; 1],
 ) -> u64 {
-    unsafe { library::ondristela_write_extent(view, image_size, first, count, buffer_size, offset) }
+    unsafe { library::ondristela_write_extent(view, image_size, first, count, buffer_size, offset, sector) }
 }
 
 /// CRC-32 of ITU-T V.42.

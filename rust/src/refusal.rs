@@ -5,6 +5,9 @@ use std::fmt;
 /// Why a call was refused. A refused call has changed nothing, except that `Protected` locks the view.
 /// docs/RULES.md has the table of refusals, and the order in which a call tests them.
 ///
+/// Reads, writes and extents that are refused `Outside` or `Protected` tell the sector in the way: the first user
+/// sector that kept them from being done.
+///
 /// ```
 /// use ondristela::{Location, Refusal};
 ///
@@ -14,100 +17,144 @@ use std::fmt;
 ///     refusal.to_string(),
 ///     "the host_size is below 262,656, above 2^50, or no multiple of 512 (refusal 3)"
 /// );
+///
+/// let refusal = Refusal::Protected { sector: 1024 };
+/// assert_eq!((refusal.number(), refusal.sector()), (18, Some(1024)));
+/// assert!(refusal.to_string().ends_with("; the sector in the way is user sector 1024 (refusal 18)"));
 /// ```
 #[derive(Clone, Copy, Debug, PartialEq, Eq, Hash)]
-#[repr(u8)]
 pub enum Refusal {
     // variants: written by tools/refusals.py from refusals.txt
     /// The candidates are not 1 to 64 headers of 512 bytes, with one location code for each; for a header
     /// to be written, the salt is not 64 bytes long, the keys are not 256, or the header is not 512.
-    Lengths = 1,
+    Lengths,
     /// A location code is above 3; the codes are 0 standard, 1 hidden, 2 standard backup, 3 hidden
     /// backup.
-    Code = 2,
+    Code,
     /// The host_size is below 262,656, above 2^50, or no multiple of 512.
-    HostSize = 3,
+    HostSize,
     /// No candidate is a header: each has a magic other than VERA and TRUE, or a wrong checksum, as after
     /// deciphering with a wrong password or cipher.
-    NoHeader = 4,
+    NoHeader,
     /// The header's version is not supported; for VERA it must be 2 to 5, for TRUE 4 or 5.
-    Version = 5,
+    Version,
     /// A reserved flag of the header (bits 2 to 31) is set, or in a VERA header a reserved byte (76 to
     /// 91, 132 to 251) is not zero.
-    Reserved = 6,
+    Reserved,
     /// Flag bit 0 or 1 of the header is set, which tells of a system volume or one encrypted in place;
     /// neither is supported.
-    Flags = 7,
+    Flags,
     /// The header's sector_size is not 512, the only one that is supported.
-    SectorSize = 8,
+    SectorSize,
     /// The header's hidden_size does not fit its location code; it must be 0 for a standard volume, and
     /// for a hidden one equal to data_size and not 0.
-    HiddenSize = 9,
+    HiddenSize,
     /// The header's data area does not fit the host; it must be one or more whole 512-byte sectors, with
     /// encrypted_size equal to data_size, that start at 131,072 (for a hidden volume there or at a later
     /// multiple of 512) and end at least 131,072 bytes before the host's end.
-    DataArea = 10,
+    DataArea,
     /// The layout or view is unsound: its host_size is refused 3, its kind is neither standard nor
     /// hidden, its data area does not fit the host as 10 has it, or its protected range is empty, not of
     /// whole sectors, outside the data area or in a hidden volume; use one that an accepted call gave.
-    Unsound = 11,
+    Unsound,
     /// The layouts do not nest; the first must be standard and the second hidden, with the same host_size
     /// and its data area inside the first's.
-    NotNested = 12,
+    NotNested,
     /// The image is not host_size bytes long; pass the whole host.
-    ImageSize = 13,
+    ImageSize,
     /// The count is above 128; split the extent over several calls.
-    Count = 14,
+    Count,
     /// The buffer is not 512 bytes long for each sector of the count.
-    BufferSize = 15,
+    BufferSize,
     /// First and count add up to more sectors than the volume has; in the map, the user sector is not
     /// below that number, or the host sector lies outside the data area.
-    Outside = 16,
+    Outside {
+        /// The sector in the way: the first user sector past the volume's end, or first itself if that is
+        /// later; the map tells none.
+        sector: Option<u64>,
+    },
     /// The view's write lock is closed, as refusal 18 leaves it; nothing was written, and reads still
     /// work.
-    Locked = 17,
+    Locked,
     /// A sector of the write lies in the protected range, which holds the hidden volume; nothing was
     /// written, and the view now refuses every write.
-    Protected = 18,
+    Protected {
+        /// The sector in the way: the first user sector of the protected range, or first itself if that
+        /// is later.
+        sector: u64,
+    },
     /// The magic of the header to be written is neither VERA nor TRUE.
-    Magic = 19,
+    Magic,
     // end of variants
 }
 
 impl Refusal {
-    /// All, in the order of their numbers.
-    // list: written by tools/refusals.py from refusals.txt
-    pub const ALL: [Refusal; 19] = [
-        Refusal::Lengths,
-        Refusal::Code,
-        Refusal::HostSize,
-        Refusal::NoHeader,
-        Refusal::Version,
-        Refusal::Reserved,
-        Refusal::Flags,
-        Refusal::SectorSize,
-        Refusal::HiddenSize,
-        Refusal::DataArea,
-        Refusal::Unsound,
-        Refusal::NotNested,
-        Refusal::ImageSize,
-        Refusal::Count,
-        Refusal::BufferSize,
-        Refusal::Outside,
-        Refusal::Locked,
-        Refusal::Protected,
-        Refusal::Magic,
-    ];
-    // end of list
-
     /// Its number, from 1 on.
     pub fn number(self) -> u8 {
-        self as u8
+        // numbers: written by tools/refusals.py from refusals.txt
+        match self {
+            Refusal::Lengths => 1,
+            Refusal::Code => 2,
+            Refusal::HostSize => 3,
+            Refusal::NoHeader => 4,
+            Refusal::Version => 5,
+            Refusal::Reserved => 6,
+            Refusal::Flags => 7,
+            Refusal::SectorSize => 8,
+            Refusal::HiddenSize => 9,
+            Refusal::DataArea => 10,
+            Refusal::Unsound => 11,
+            Refusal::NotNested => 12,
+            Refusal::ImageSize => 13,
+            Refusal::Count => 14,
+            Refusal::BufferSize => 15,
+            Refusal::Outside { .. } => 16,
+            Refusal::Locked => 17,
+            Refusal::Protected { .. } => 18,
+            Refusal::Magic => 19,
+        }
+        // end of numbers
     }
 
-    /// The refusal that has this number, if one has.
-    pub fn from_number(number: u64) -> Option<Refusal> {
-        Refusal::ALL.into_iter().find(|refusal| u64::from(refusal.number()) == number)
+    /// The refusal that has this number, if one has. `sector` is what the call stored as the sector in the way, if
+    /// it takes a place for one: there is no `Protected` without it, and a refusal that tells no sector passes it
+    /// over.
+    pub fn from_number(number: u64, sector: Option<u64>) -> Option<Refusal> {
+        // refusals: written by tools/refusals.py from refusals.txt
+        match number {
+            1 => Some(Refusal::Lengths),
+            2 => Some(Refusal::Code),
+            3 => Some(Refusal::HostSize),
+            4 => Some(Refusal::NoHeader),
+            5 => Some(Refusal::Version),
+            6 => Some(Refusal::Reserved),
+            7 => Some(Refusal::Flags),
+            8 => Some(Refusal::SectorSize),
+            9 => Some(Refusal::HiddenSize),
+            10 => Some(Refusal::DataArea),
+            11 => Some(Refusal::Unsound),
+            12 => Some(Refusal::NotNested),
+            13 => Some(Refusal::ImageSize),
+            14 => Some(Refusal::Count),
+            15 => Some(Refusal::BufferSize),
+            16 => Some(Refusal::Outside { sector }),
+            17 => Some(Refusal::Locked),
+            18 => Some(Refusal::Protected { sector: sector? }),
+            19 => Some(Refusal::Magic),
+            _ => None,
+        }
+        // end of refusals
+    }
+
+    /// The sector in the way, if the refusal tells one: a user sector, which for `Outside` the volume does not have.
+    pub fn sector(self) -> Option<u64> {
+        // sectors: written by tools/refusals.py from refusals.txt
+        match self {
+            Refusal::Outside { sector } => sector,
+            Refusal::Protected { sector } => Some(sector),
+            _ => None,
+        }
+        // end of sectors
     }
 
     /// When the refusal is given, and what can be done about it.
@@ -163,7 +210,7 @@ impl Refusal {
             Refusal::ImageSize => "the image is not host_size bytes long; pass the whole host",
             Refusal::Count => "the count is above 128; split the extent over several calls",
             Refusal::BufferSize => "the buffer is not 512 bytes long for each sector of the count",
-            Refusal::Outside => {
+            Refusal::Outside { .. } => {
                 "first and count add up to more sectors than the volume has; in the map, the user sector is \
                  not below that number, or the host sector lies outside the data area"
             }
@@ -171,7 +218,7 @@ impl Refusal {
                 "the view's write lock is closed, as refusal 18 leaves it; nothing was written, and reads \
                  still work"
             }
-            Refusal::Protected => {
+            Refusal::Protected { .. } => {
                 "a sector of the write lies in the protected range, which holds the hidden volume; nothing \
                  was written, and the view now refuses every write"
             }
@@ -180,15 +227,16 @@ impl Refusal {
         // end of sentences
     }
 
-    /// What an answer of the library says: 0 is an acceptance, any other number a refusal.
+    /// What an answer of the library says: 0 is an acceptance, any other number a refusal. `sector` is as for
+    /// [`from_number`](Refusal::from_number).
     ///
     /// The library is proved to answer nothing but 0 and these numbers. Another number can only come from
     /// a library that this crate was not made for, and panics.
-    pub(crate) fn check(answer: u64) -> Result<(), Refusal> {
+    pub(crate) fn check(answer: u64, sector: Option<u64>) -> Result<(), Refusal> {
         if answer == 0 {
             return Ok(());
         }
-        match Refusal::from_number(answer) {
+        match Refusal::from_number(answer, sector) {
             Some(refusal) => Err(refusal),
             None => panic!("libondristela.a answered {answer}: it and this crate do not fit together"),
         }
@@ -197,7 +245,11 @@ impl Refusal {
 
 impl fmt::Display for Refusal {
     fn fmt(&self, formatter: &mut fmt::Formatter<'_>) -> fmt::Result {
-        write!(formatter, "{} (refusal {})", self.sentence(), self.number())
+        formatter.write_str(self.sentence())?;
+        if let Some(sector) = self.sector() {
+            write!(formatter, "; the sector in the way is user sector {sector}")?;
+        }
+        write!(formatter, " (refusal {})", self.number())
     }
 }
 

@@ -20,14 +20,14 @@ impl View {
     /// A view of a volume alone.
     pub fn plain(layout: &Layout) -> Result<View, Refusal> {
         let mut numbers = [0; 12];
-        Refusal::check(raw::view_plain(&layout.numbers(), &mut numbers))?;
+        Refusal::check(raw::view_plain(&layout.numbers(), &mut numbers), None)?;
         Ok(View::made(layout, &numbers))
     }
 
     /// A view of an outer volume whose writes may not touch a hidden volume's data area.
     pub fn protected(outer: &Layout, hidden: &Layout) -> Result<View, Refusal> {
         let mut numbers = [0; 12];
-        Refusal::check(raw::view_protected(&outer.numbers(), &hidden.numbers(), &mut numbers))?;
+        Refusal::check(raw::view_protected(&outer.numbers(), &hidden.numbers(), &mut numbers), None)?;
         Ok(View::made(outer, &numbers))
     }
 
@@ -50,16 +50,33 @@ impl View {
     /// Fills the buffer with `count` sectors of the image, from user sector `first` on. The image is the
     /// whole host, the buffer 512 bytes for each sector. A refusal leaves the buffer as it was.
     pub fn read(&self, image: &[u8], first: u64, count: u64, buffer: &mut [u8]) -> Result<(), Refusal> {
-        Refusal::check(raw::read(&self.numbers(), image, first, count, buffer))
+        let mut sector = [0];
+        let answer = raw::read(&self.numbers(), image, first, count, buffer, &mut sector);
+        Refusal::check(answer, Some(sector[0]))
     }
 
     /// Copies the buffer into `count` sectors of the image, from user sector `first` on. A refusal leaves
     /// the image as it was; `Refusal::Protected` locks the view.
+    ///
+    /// ```
+    /// # use ondristela::{open, Location, Refusal, View};
+    /// # let outer_header = include_bytes!("../../samples/tcplay-1048576-code0.header");
+    /// # let hidden_header = include_bytes!("../../samples/tcplay-1048576-code1.header");
+    /// # let mut image = vec![0; 1_048_576];
+    /// # let outer = open(outer_header, &[Location::Standard.code()], 1_048_576)?;
+    /// # let hidden = open(hidden_header, &[Location::Hidden.code()], 1_048_576)?;
+    /// // The hidden volume's first sector is the outer one's user sector 1,024.
+    /// let mut view = View::protected(&outer, &hidden)?;
+    /// let refusal = view.write(&mut image, 1_000, 100, &[0x5A; 100 * 512]).unwrap_err();
+    /// assert_eq!(refusal, Refusal::Protected { sector: 1_024 });
+    /// # Ok::<(), Refusal>(())
+    /// ```
     pub fn write(&mut self, image: &mut [u8], first: u64, count: u64, buffer: &[u8]) -> Result<(), Refusal> {
         let mut numbers = self.numbers();
-        let answer = raw::write(&mut numbers, image, first, count, buffer);
+        let mut sector = [0];
+        let answer = raw::write(&mut numbers, image, first, count, buffer, &mut sector);
         self.locked = numbers[11] != 0;
-        Refusal::check(answer)
+        Refusal::check(answer, Some(sector[0]))
     }
 
     /// Where a read takes its bytes, for an image that is not in memory: the extent's first byte in the host.
@@ -71,15 +88,11 @@ impl View {
         count: u64,
         buffer_size: u64,
     ) -> Result<u64, Refusal> {
-        let mut offset = [0];
-        Refusal::check(raw::read_extent(
-            &self.numbers(),
-            image_size,
-            first,
-            count,
-            buffer_size,
-            &mut offset,
-        ))?;
+        let numbers = self.numbers();
+        let (mut offset, mut sector) = ([0], [0]);
+        let answer =
+            raw::read_extent(&numbers, image_size, first, count, buffer_size, &mut offset, &mut sector);
+        Refusal::check(answer, Some(sector[0]))?;
         Ok(offset[0])
     }
 
@@ -93,10 +106,11 @@ impl View {
         buffer_size: u64,
     ) -> Result<u64, Refusal> {
         let mut numbers = self.numbers();
-        let mut offset = [0];
-        let answer = raw::write_extent(&mut numbers, image_size, first, count, buffer_size, &mut offset);
+        let (mut offset, mut sector) = ([0], [0]);
+        let answer =
+            raw::write_extent(&mut numbers, image_size, first, count, buffer_size, &mut offset, &mut sector);
         self.locked = numbers[11] != 0;
-        Refusal::check(answer)?;
+        Refusal::check(answer, Some(sector[0]))?;
         Ok(offset[0])
     }
 }

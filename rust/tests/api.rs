@@ -144,7 +144,8 @@ fn magics() {
     let answers = [Magic::Vera.letters(), Magic::True.letters(), *b"VERa"].map(|magic| {
         raw::write_header(&magic, 5, 7, 0, HOST_SIZE, 131_072, 512, &[0; 64], &[0; 256], header)
     });
-    assert_eq!(answers.map(Refusal::from_number), [None, None, Some(Refusal::Magic)]);
+    let refusals = answers.map(|answer| Refusal::from_number(answer, None));
+    assert_eq!(refusals, [None, None, Some(Refusal::Magic)]);
     assert_eq!([Magic::Vera.letters(), Magic::True.letters()], [*b"VERA", *b"TRUE"]);
 }
 
@@ -167,8 +168,9 @@ fn sectors_and_tweaks() {
     assert_eq!(layout.host_sector(511), Ok(1_791));
     assert_eq!(layout.user_sector(1_791), Ok(511));
     assert_eq!(layout.tweak(511), Ok(1_791u128.to_le_bytes()));
-    assert_eq!(layout.host_sector(512), Err(Refusal::Outside));
-    assert_eq!(layout.user_sector(1_279), Err(Refusal::Outside));
+    assert_eq!(layout.host_sector(512), Err(Refusal::Outside { sector: None }));
+    assert_eq!(layout.user_sector(1_279), Err(Refusal::Outside { sector: None }));
+    assert_eq!(layout.tweak(512), Err(Refusal::Outside { sector: None }));
     assert_eq!(Layout { data_size: 511, ..layout }.tweak(0), Err(Refusal::Unsound));
 }
 
@@ -199,6 +201,8 @@ fn writes_are_read_back() {
     assert_eq!(view.read(&image[1..], 0, 0, &mut []), Err(Refusal::ImageSize));
     assert_eq!(view.read(&image, 0, 1, &mut []), Err(Refusal::BufferSize));
     assert_eq!(view.read(&image, 0, 129, &mut []), Err(Refusal::Count));
+    assert_eq!(view.read(&image, 511, 2, &mut read), Err(Refusal::Outside { sector: Some(512) }));
+    assert_eq!(view.write(&mut image, 511, 2, &written), Err(Refusal::Outside { sector: Some(512) }));
 }
 
 #[test]
@@ -206,7 +210,7 @@ fn a_protected_write_locks_the_view() {
     let mut image = vec![0; HOST_SIZE as usize];
     let mut view = View::protected(&outer(), &hidden()).unwrap();
     let buffer = [0x5A; 1_024];
-    assert_eq!(view.write(&mut image, 1_023, 2, &buffer), Err(Refusal::Protected));
+    assert_eq!(view.write(&mut image, 1_023, 2, &buffer), Err(Refusal::Protected { sector: 1_024 }));
     assert!(view.locked && image.iter().all(|byte| *byte == 0));
     assert_eq!(view.write(&mut image, 0, 2, &buffer), Err(Refusal::Locked));
     assert_eq!(view.read(&image, 1_023, 2, &mut [0; 1_024]), Ok(()));
@@ -224,26 +228,45 @@ fn extents_are_judged_as_reads_and_writes_are() {
         (HOST_SIZE + 512, 0, 1, 512, Refusal::ImageSize),
         (HOST_SIZE, 0, 129, 129 * 512, Refusal::Count),
         (HOST_SIZE, 0, 1, 511, Refusal::BufferSize),
-        (HOST_SIZE, 1_536, 1, 512, Refusal::Outside),
+        (HOST_SIZE, 1_536, 1, 512, Refusal::Outside { sector: Some(1_536) }),
+        (HOST_SIZE, 1_500, 100, 51_200, Refusal::Outside { sector: Some(1_536) }),
+        (HOST_SIZE, 1_537, 0, 0, Refusal::Outside { sector: Some(1_537) }),
+        (HOST_SIZE, u64::MAX, 128, 65_536, Refusal::Outside { sector: Some(u64::MAX) }),
     ];
     for (image_size, first, count, buffer_size, refusal) in refusals {
         assert_eq!(view.read_extent(image_size, first, count, buffer_size), Err(refusal));
         assert_eq!(view.write_extent(image_size, first, count, buffer_size), Err(refusal));
     }
-    assert_eq!(view.write_extent(HOST_SIZE, 1_023, 2, 1_024), Err(Refusal::Protected));
+    let protected = Refusal::Protected { sector: 1_024 };
+    assert_eq!(view.write_extent(HOST_SIZE, 1_023, 2, 1_024), Err(protected));
     assert_eq!((view.locked, view.write_extent(HOST_SIZE, 0, 1, 512)), (true, Err(Refusal::Locked)));
     assert_eq!(view.read_extent(HOST_SIZE, 0, 1, 512), Ok(131_072));
 }
 
 #[test]
 fn refusals_and_their_numbers() {
-    for (index, refusal) in Refusal::ALL.into_iter().enumerate() {
-        let number = index as u64 + 1;
+    for number in 1..=19 {
+        let refusal = Refusal::from_number(number, Some(7)).unwrap();
         assert_eq!(u64::from(refusal.number()), number);
-        assert_eq!(Refusal::from_number(number), Some(refusal));
+        assert_eq!(refusal.sector(), [16, 18].contains(&number).then_some(7));
         assert!(refusal.to_string().ends_with(&format!(" (refusal {number})")));
     }
-    assert_eq!([0, 20, 256 + 1, u64::MAX].map(Refusal::from_number), [None; 4]);
+    for number in [0, 20, 256 + 1, u64::MAX] {
+        assert_eq!(Refusal::from_number(number, Some(7)), None);
+    }
+    assert_eq!(Refusal::from_number(16, None), Some(Refusal::Outside { sector: None }));
+    assert_eq!(Refusal::from_number(18, None), None);
+}
+
+/// A sentence names the sector in the way where there is one, and else is the same without it.
+#[test]
+fn sentences_of_refusals() {
     let magic = "the magic of the header to be written is neither VERA nor TRUE (refusal 19)";
     assert_eq!(Refusal::Magic.to_string(), magic);
+    let [silent, telling] = [None, Some(u64::MAX)].map(|sector| Refusal::Outside { sector }.to_string());
+    let told = format!("; the sector in the way is user sector {}", u64::MAX);
+    assert!(silent.ends_with("the host sector lies outside the data area (refusal 16)"));
+    assert_eq!(telling.replace(&told, ""), silent);
+    let protected = Refusal::Protected { sector: 1_024 }.to_string();
+    assert!(protected.ends_with("every write; the sector in the way is user sector 1024 (refusal 18)"));
 }

@@ -49,10 +49,11 @@ pub fn measure_writes<P: Positions>(inputs: &mut Inputs<P>) -> [Timing; 2] {
 
 fn read_ours<P: Positions>(inputs: &mut Inputs<P>, calls: u64) {
     let Inputs { view, image, buffer, count, positions } = inputs;
-    let (image, buffer) = (image.bytes(), buffer.bytes_mut());
+    let (image, buffer, mut sector) = (image.bytes(), buffer.bytes_mut(), [0]);
     for _ in 0..calls {
         let (image, buffer) = black_box((image, &mut *buffer));
-        black_box(raw::read(black_box(view), image, positions.next(), *count, buffer));
+        let sector = black_box(&mut sector);
+        black_box(raw::read(black_box(view), image, positions.next(), *count, buffer, sector));
     }
 }
 
@@ -68,10 +69,11 @@ fn read_peer<P: Positions>(inputs: &mut Inputs<P>, calls: u64) {
 
 fn write_ours<P: Positions>(inputs: &mut Inputs<P>, calls: u64) {
     let Inputs { view, image, buffer, count, positions } = inputs;
-    let (image, buffer) = (image.bytes_mut(), buffer.bytes());
+    let (image, buffer, mut sector) = (image.bytes_mut(), buffer.bytes(), [0]);
     for _ in 0..calls {
         let (image, buffer) = black_box((&mut *image, buffer));
-        black_box(raw::write(black_box(view), image, positions.next(), *count, buffer));
+        let sector = black_box(&mut sector);
+        black_box(raw::write(black_box(view), image, positions.next(), *count, buffer, sector));
     }
 }
 
@@ -94,7 +96,7 @@ fn check_read<P: Positions>(inputs: &mut Inputs<P>) {
     let Inputs { view, image, buffer, count, positions } = inputs;
     let (sector, size) = (positions.next(), buffer.bytes().len());
     image.bytes_mut()[start(sector)..start(sector) + size].fill(0x5A);
-    assert_eq!(raw::read(view, image.bytes(), sector, *count, buffer.bytes_mut()), 0);
+    assert_eq!(raw::read(view, image.bytes(), sector, *count, buffer.bytes_mut(), &mut [0]), 0);
     assert!(buffer.bytes().iter().all(|&byte| byte == 0x5A));
 }
 
@@ -102,6 +104,6 @@ fn check_write<P: Positions>(inputs: &mut Inputs<P>) {
     let Inputs { view, image, buffer, count, positions } = inputs;
     let (sector, size) = (positions.next(), buffer.bytes().len());
     buffer.bytes_mut().fill(0xA5);
-    assert_eq!(raw::write(view, image.bytes_mut(), sector, *count, buffer.bytes()), 0);
+    assert_eq!(raw::write(view, image.bytes_mut(), sector, *count, buffer.bytes(), &mut [0]), 0);
     assert!(image.bytes()[start(sector)..start(sector) + size].iter().all(|&byte| byte == 0xA5));
 }
