@@ -22,8 +22,8 @@ finish() {
 }
 trap finish EXIT
 
-topics=(demo readme usage copies refusals headers one_header prepare prepare_refusals prepare_files streams large
-    interrupted devices terminal)
+topics=(demo readme usage copies refusals in_the_way headers one_header prepare prepare_refusals prepare_files
+    streams large interrupted devices terminal)
 source "$root/tests/volumes/checks.sh"
 for topic in "${@:-${topics[@]}}"; do
     # shellcheck disable=SC1090

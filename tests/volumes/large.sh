@@ -15,11 +15,16 @@ if truncate -s 8T large.img 2>/dev/null; then
         little write outer $((2**33 - 257)) sector
     same 'a write before the hidden volume' sector <(at $((2**33 - 1)))
     expect 'a write into the hidden volume' 1 '(refusal 18)' little write outer $((2**33 - 256)) sector
+    says 'a write into the hidden volume' \
+        "outer sector 8,589,934,336, which is the hidden volume's: host sector 8,589,934,592, from byte 4,398,046,511,104 on"
     expect 'a write to its first sector' 0 'wrote hidden' little write hidden 0 sector
     same 'a write to its first sector' sector <(at $((2**33)))
     expect 'a write to its last sector' 0 'wrote hidden' little write hidden $((2**33 - 257)) sector
     same 'a write to its last sector' sector <(at $((2**34 - 257)))
     expect 'a write past it' 1 '(refusal 16)' little write hidden $((2**33 - 256)) sector
+    says 'a write past it' 'it would be host sector 17,179,868,928, from byte 8,796,092,891,136 on'
+    expect 'a read of all and one more' 1 'the volume has 17,179,868,672 sectors' \
+        timeout 10 "$program" read large.img "${headers[@]}" outer 0 $((2**34 - 511)) none
     expect 'a read across' 0 'count 300' little read outer $((2**33 - 257)) 300 copy
     same 'a read across' copy <(dd if=large.img bs=512 skip=$((2**33 - 1)) count=300 status=none)
     rm large.img

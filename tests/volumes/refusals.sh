@@ -1,4 +1,4 @@
-# Reads and writes that are refused, with the facts, and what they leave.
+# Reads and writes that are refused, and what they leave. Which sector is in the way is in_the_way.sh's matter.
 # shellcheck shell=bash disable=SC2154
 
 begin refusals
@@ -8,19 +8,11 @@ random 153600 >results
 expect 'a write into the protected range' 1 '(refusal 18)' on_disk write outer 725 results
 says 'its sentence' 'refused: a sector of the write lies in the protected range'
 says 'its extent' 'asked for: outer sector 725, count 300'
-says 'its range' 'protected: outer sectors 1,024 to 1,535, of which it would touch 1,024 first'
 says 'its advice' 'next: write outside the protected sectors'
-expect 'a write inside the protected range' 1 'of which it would touch 1,100 first' on_disk write outer 1100 results
 expect 'a write past the outer end' 1 '(refusal 16)' on_disk write outer 1237 results
+says 'its sentence' 'refused: first and count add up to more sectors than the volume has'
 says 'its extent' 'asked for: outer sector 1,237, count 300'
-says 'its volume' 'outer volume: 1,536 sectors, 0 to 1,535'
-expect 'a write past the hidden end' 1 '(refusal 16)' on_disk write hidden 213 results
-says 'its volume' 'hidden volume: 512 sectors, 0 to 511'
-expect 'a write past 2^64' 1 '(refusal 16)' on_disk write hidden 18446744073709551615 results
-header 'hidden(data_start=524_288, data_size=2_560, salt=salt_at(65_536))' >small.header
-expect 'a write around a small protected range' 1 '(refusal 18)' \
-    volumes write disk.img --outer outer.header --hidden small.header outer 600 results
-says 'its range' 'protected: outer sectors 768 to 772, of which it would touch 768 first'
+says 'its advice' 'next: ask for sectors that the volume has'
 random 1000 >odd
 : >empty
 expect 'a write of half a sector' 2 'odd: 1000 bytes are no whole number' on_disk write outer 0 odd

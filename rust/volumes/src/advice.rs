@@ -22,9 +22,9 @@ pub fn advice(refusal: Refusal) -> &'static str {
         }
         Refusal::NotNested => "check that both headers are of this image",
         Refusal::ImageSize => "let nothing else use the image meanwhile, and check that it is still whole",
-        Refusal::Outside => "ask for sectors that the volume has",
+        Refusal::Outside { .. } => "ask for sectors that the volume has",
         Refusal::Locked => "open the volume again",
-        Refusal::Protected => {
+        Refusal::Protected { .. } => {
             "write outside the protected sectors; what is meant for the hidden volume is written to it by name"
         }
         Refusal::Code | Refusal::Magic | Refusal::Unsound | Refusal::Count | Refusal::BufferSize => {

@@ -36,6 +36,9 @@ FILE - is standard output or standard input. Standard input is copied to a
 nameless file in $TMPDIR (or /tmp) first, since all of a write is judged
 before its first byte is written.
 Sectors are copied as they stand, enciphered.
+What reaches past the volume's end, or would touch a protected sector, is
+refused with the sector in the way, its place in IMAGE, and how much of
+what was asked for lies before it.
 
 A header is prepared with a new random salt and new random keys, and an
 outer volume with all the room that IMAGE has, where nothing else is said:

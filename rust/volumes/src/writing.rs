@@ -23,7 +23,7 @@ pub fn write(files: &Files, volume: Volume, first: u64, path: &Path) -> Result<S
     let image = Image::to_write(&files.image)?;
     let mut view = Volumes::open(files, &image)?.into_view(volume)?;
     let source = match is_stream(path) {
-        true => Source::spool(first, |extent| judge_end(&mut view, &image, extent))?,
+        true => Source::spool(first, |extent| judge_input(&mut view, &image, extent))?,
         false => Source::open(path, first)?,
     };
     judge_write(&mut view, &image, source.extent)?;
@@ -34,6 +34,12 @@ pub fn write(files: &Files, volume: Volume, first: u64, path: &Path) -> Result<S
     }
     copy_and_sync(&mut view, &image, &source)?;
     Ok(format!("wrote {} {}, from {}\n", volume.name(), source.extent, source.name()))
+}
+
+// Of standard input that goes on, no more is known than what has come so far.
+fn judge_input(view: &mut View, image: &Image, so_far: Extent) -> Result<(), Problem> {
+    judge_end(view, image, so_far)
+        .map_err(|problem| problem.fact("standard input was read no further".to_string()))
 }
 
 // Signals are caught from here on, so that none ends the program within a call.
