@@ -48,7 +48,7 @@ header_alone() {
     echo '#include "ondristela.h"' | "$@" -I"$root/include" -fsyntax-only -
 }
 
-example=$(sed -n '/^ \*     static .*write_outer_sector/,/^ \*     }$/s/^ \* \{0,5\}//p' \
+example=$(sed -n '/^ \*     static .*write_outer_sectors/,/^ \*     }$/s/^ \* \{0,5\}//p' \
     "$root/include/ondristela.h")
 if [ -z "$example" ] || [[ $(<"$root/tests/boundary/example.c") != *"$example"* ]]; then
     echo 'the example in include/ondristela.h is not the function in tests/boundary/example.c' >&2

@@ -30,6 +30,7 @@ SIGNATURE = ALL + [
     ('length changed', r'(; |\[)(\d+)\]', r'\g<1>1\2]'),
     ('argument dropped', r'(?<=[(,])[^,()]*\w[^,()]*(?=[,)])', ''),
     ('arguments exchanged', r'(?<=[(,])([^,()]*\w[^,()]*),([^,()]*\w[^,()]*)(?=[,)])', r'\2,\1'),
+    ('last arguments exchanged', r'(?<=[(,])([^,()]*\w[^,()]*),([^,()]*\w[^,()]*)(?=,?\s*\))', r'\2,\1'),
 ]
 ARROW = [
     ('argument renamed', r'\b\w+(?=: )', r'\g<0>_again'),

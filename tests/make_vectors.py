@@ -2,8 +2,8 @@
 """Makes the inputs and expected outputs of the programs `vectors` and `volmap`.
 
 The rules of docs/RULES.md are written out a second time in the folder vectors, from their text and not from the
-Rattle code, with zlib's CRC-32. Each case says by hand which answer they give it, and that is held to what is
-computed here before any file is written.
+Rattle code, with zlib's CRC-32. Each case but the generated ones says by hand which answer they give it, and that
+is held to what is computed here before any file is written.
 
     tests/make_vectors.py            write the files
     tests/make_vectors.py --check    write nothing; fail where a file is not what would be written

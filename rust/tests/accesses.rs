@@ -8,7 +8,7 @@ use cases::coverage::Coverage;
 use cases::extents::{buffer_size, for_sectors};
 use cases::views;
 use ondristela::raw;
-use reference::access::{self, Extent, View};
+use reference::access::{self, Answer, Extent, View};
 use reference::random::Random;
 
 const SEED: u64 = 21;
@@ -59,18 +59,21 @@ fn image_size(host_size: u64, random: &mut Random) -> usize {
     random.pick(&[0, 512, right.saturating_sub(1), right.saturating_sub(512), right + 1, right + 512])
 }
 
-fn read_by_reference(access: &Access, memory: &mut Memory) -> u64 {
+fn read_by_reference(access: &Access, memory: &mut Memory) -> Answer {
     let Access { view, image_size, extent, buffer_size } = access;
     access::read(view, &memory.image[..*image_size], *extent, &mut memory.buffer[..*buffer_size])
 }
 
 /// The answer, and the view as it is left.
-fn write_by_reference(access: &Access, memory: &mut Memory) -> (u64, View) {
+fn write_by_reference(access: &Access, memory: &mut Memory) -> (Answer, View) {
     let Access { view, image_size, extent, buffer_size } = access;
     let mut left = *view;
     let buffer = &memory.buffer[..*buffer_size];
     (access::write(&mut left, &mut memory.image[..*image_size], *extent, buffer), left)
 }
+
+/// What stands in an offset and in a sector before a call.
+const UNTOLD: u64 = 0xABCD_EF01_2345_6789;
 
 /// Reads from the library into `given` and from the reference into `expected`.
 fn check_read(access: &Access, given: &mut Memory, expected: &mut Memory, case: u64) -> u64 {
@@ -79,8 +82,9 @@ fn check_read(access: &Access, given: &mut Memory, expected: &mut Memory, case: 
     let numbers = view.numbers();
     let image = &given.image[..*image_size];
     let buffer = &mut given.buffer[..*buffer_size];
-    let answer = raw::read(&numbers, image, extent.first, extent.count, buffer);
-    assert_eq!(answer, expected_answer, "read, seed {SEED} case {case}: {access:?}");
+    let mut sector = [UNTOLD];
+    let answer = raw::read(&numbers, image, extent.first, extent.count, buffer, &mut sector);
+    assert_told((answer, sector), expected_answer, || format!("read, seed {SEED} case {case}: {access:?}"));
     assert_eq!(numbers, view.numbers(), "read changed its view, seed {SEED} case {case}: {access:?}");
     answer
 }
@@ -92,14 +96,17 @@ fn check_write(access: &Access, given: &mut Memory, expected: &mut Memory, case:
     let mut numbers = view.numbers();
     let image = &mut given.image[..*image_size];
     let buffer = &given.buffer[..*buffer_size];
-    let answer = raw::write(&mut numbers, image, extent.first, extent.count, buffer);
-    assert_eq!(answer, expected_answer, "write, seed {SEED} case {case}: {access:?}");
+    let mut sector = [UNTOLD];
+    let answer = raw::write(&mut numbers, image, extent.first, extent.count, buffer, &mut sector);
+    assert_told((answer, sector), expected_answer, || format!("write, seed {SEED} case {case}: {access:?}"));
     assert_eq!(numbers, expected_view.numbers(), "write's view, seed {SEED} case {case}: {access:?}");
     answer
 }
 
-/// What stands in an offset before a call.
-const UNTOLD: u64 = 0xABCD_EF01_2345_6789;
+/// The answer is the reference's, and so is the sector; where none is told, what stood there must be left.
+fn assert_told((answer, sector): (u64, [u64; 1]), expected: Answer, context: impl Fn() -> String) {
+    assert_eq!((answer, sector[0]), expected.stored_over(UNTOLD), "{}", context());
+}
 
 /// The offset where a call accepts. A refusal must leave what stood there.
 fn told(answer: u64, offset: [u64; 1]) -> Option<usize> {
@@ -111,10 +118,12 @@ fn told(answer: u64, offset: [u64; 1]) -> Option<usize> {
 fn check_read_extent(access: &Access, given: &mut Memory, expected: &mut Memory, case: u64) -> u64 {
     let Access { view, image_size, extent, buffer_size } = access;
     let expected_answer = read_by_reference(access, expected);
-    let (numbers, mut offset) = (view.numbers(), [UNTOLD]);
+    let (numbers, mut offset, mut sector) = (view.numbers(), [UNTOLD], [UNTOLD]);
     let (image, buffer) = (*image_size as u64, *buffer_size as u64);
-    let answer = raw::read_extent(&numbers, image, extent.first, extent.count, buffer, &mut offset);
-    assert_eq!(answer, expected_answer, "read's extent, seed {SEED} case {case}: {access:?}");
+    let Extent { first, count } = *extent;
+    let answer = raw::read_extent(&numbers, image, first, count, buffer, &mut offset, &mut sector);
+    let context = || format!("read's extent, seed {SEED} case {case}: {access:?}");
+    assert_told((answer, sector), expected_answer, context);
     if let Some(start) = told(answer, offset) {
         given.buffer[..*buffer_size].copy_from_slice(&given.image[start..start + *buffer_size]);
     }
@@ -125,10 +134,12 @@ fn check_read_extent(access: &Access, given: &mut Memory, expected: &mut Memory,
 fn check_write_extent(access: &Access, given: &mut Memory, expected: &mut Memory, case: u64) -> u64 {
     let Access { view, image_size, extent, buffer_size } = access;
     let (expected_answer, expected_view) = write_by_reference(access, expected);
-    let (mut numbers, mut offset) = (view.numbers(), [UNTOLD]);
+    let (mut numbers, mut offset, mut sector) = (view.numbers(), [UNTOLD], [UNTOLD]);
     let (image, buffer) = (*image_size as u64, *buffer_size as u64);
-    let answer = raw::write_extent(&mut numbers, image, extent.first, extent.count, buffer, &mut offset);
-    assert_eq!(answer, expected_answer, "write's extent, seed {SEED} case {case}: {access:?}");
+    let Extent { first, count } = *extent;
+    let answer = raw::write_extent(&mut numbers, image, first, count, buffer, &mut offset, &mut sector);
+    let context = || format!("write's extent, seed {SEED} case {case}: {access:?}");
+    assert_told((answer, sector), expected_answer, context);
     assert_eq!(
         numbers,
         expected_view.numbers(),
@@ -198,17 +209,23 @@ fn extents_of_the_largest_host() {
         (0, 1, Ok(data_start)),
         (sectors - 128, 128, Ok(host_size - 131_072 - 65_536)),
         (sectors, 0, Ok(host_size - 131_072)),
-        (sectors - 127, 128, Err(16)),
-        (u64::MAX, 128, Err(16)),
+        (sectors - 127, 128, Err((16, sectors))),
+        (sectors, 1, Err((16, sectors))),
+        (sectors + 1, 0, Err((16, sectors + 1))),
+        (u64::MAX, 0, Err((16, u64::MAX))),
+        (u64::MAX, 1, Err((16, u64::MAX))),
+        (u64::MAX, 128, Err((16, u64::MAX))),
     ] {
-        let mut offset = [UNTOLD];
-        let answer = raw::read_extent(&view, host_size, first, count, count * 512, &mut offset);
-        let given = if answer == 0 { Ok(offset[0]) } else { Err(answer) };
-        assert_eq!(given, expected, "read's extent of {count} sectors from {first} on");
-        let mut offset = [UNTOLD];
-        let answer = raw::write_extent(&mut view.clone(), host_size, first, count, count * 512, &mut offset);
-        let given = if answer == 0 { Ok(offset[0]) } else { Err(answer) };
-        assert_eq!(given, expected, "write's extent of {count} sectors from {first} on");
+        let size = count * 512;
+        let (mut offset, mut sector) = ([UNTOLD], [UNTOLD]);
+        let answer = raw::read_extent(&view, host_size, first, count, size, &mut offset, &mut sector);
+        let read = if answer == 0 { Ok(offset[0]) } else { Err((answer, sector[0])) };
+        assert_eq!(read, expected, "read's extent of {count} sectors from {first} on");
+        let (mut offset, mut sector) = ([UNTOLD], [UNTOLD]);
+        let answer =
+            raw::write_extent(&mut view.clone(), host_size, first, count, size, &mut offset, &mut sector);
+        let written = if answer == 0 { Ok(offset[0]) } else { Err((answer, sector[0])) };
+        assert_eq!(written, expected, "write's extent of {count} sectors from {first} on");
     }
 }
 
@@ -221,7 +238,7 @@ fn writes_show_what_decides() {
     for case in 0..20_000 {
         let access = access(&mut Random::of_case(SEED, case));
         let Extent { first, count } = access.extent;
-        match judged(&access, access.extent) {
+        match judged(&access, access.extent).number {
             18 => straddling += u64::from(ends_are_free(&access)),
             16 if first.checked_add(count).is_none() => wrapping += u64::from(first.wrapping_add(count) <= 1),
             16 => past_end += u64::from(rest_is_protected(&access)),
@@ -232,20 +249,41 @@ fn writes_show_what_decides() {
     assert!(straddling >= 50 && past_end >= 20 && wrapping >= 20);
 }
 
+/// The writes of these cases hold every place of the sector in the way: it is the extent's first, or a later one;
+/// and for 16, the extent may have no sectors at all.
+#[test]
+fn writes_show_every_sector_in_the_way() {
+    let mut reached = [[0; 3]; 2];
+    for case in 0..20_000 {
+        let access = access(&mut Random::of_case(SEED, case));
+        let Extent { first, count } = access.extent;
+        let Answer { number, sector: Some(sector) } = judged(&access, access.extent) else { continue };
+        let place = if count == 0 { 2 } else { usize::from(sector > first) };
+        reached[usize::from(number == 18)][place] += 1;
+    }
+    let [[past, past_later, past_empty], [protected, protected_later, protected_empty]] = reached;
+    println!("of 20000 writes, 16 tells the first sector {past} times, a later one {past_later} times");
+    println!("and {past_empty} times with no sectors; 18: {protected} times, {protected_later} times");
+    assert!(past >= 100 && past_later >= 100 && past_empty >= 50, "{reached:?}");
+    assert!(protected >= 100 && protected_later >= 100 && protected_empty == 0, "{reached:?}");
+}
+
 /// The answer to a write of this access's view over this extent, with a buffer that fits.
-fn judged(access: &Access, extent: Extent) -> u64 {
+fn judged(access: &Access, extent: Extent) -> Answer {
     let buffer_size = extent.count.wrapping_mul(512) as usize;
-    access::write_refusal(&access.view, access.image_size, extent, buffer_size)
+    access::write_answer(&access.view, access.image_size, extent, buffer_size)
 }
 
 fn ends_are_free(access: &Access) -> bool {
     let Extent { first, count } = access.extent;
-    [first, first + count - 1].iter().all(|sector| judged(access, Extent { first: *sector, count: 1 }) == 0)
+    [first, first + count - 1]
+        .iter()
+        .all(|sector| judged(access, Extent { first: *sector, count: 1 }) == Answer::ACCEPTED)
 }
 
 /// The part of the extent that lies in the volume would be refused 18.
 fn rest_is_protected(access: &Access) -> bool {
     let first = access.extent.first;
     let rest = access.view.layout.sector_count().saturating_sub(first);
-    judged(access, Extent { first, count: rest }) == 18
+    judged(access, Extent { first, count: rest }).number == 18
 }

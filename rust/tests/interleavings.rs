@@ -38,14 +38,14 @@ fn library_views(lists: &Lists) -> [[u64; 12]; 2] {
 }
 
 fn library_step(view: &mut [u64; 12], image: &mut [u8], call: &Call) -> Outcome {
-    let mut buffer = call.buffer.clone();
+    let (mut buffer, mut sector) = (call.buffer.clone(), [call.sector]);
     let (first, count) = (call.extent.first, call.extent.count);
     let answer = if call.writes {
-        raw::write(view, image, first, count, &buffer)
+        raw::write(view, image, first, count, &buffer, &mut sector)
     } else {
-        raw::read(view, image, first, count, &mut buffer)
+        raw::read(view, image, first, count, &mut buffer, &mut sector)
     };
-    Outcome { answer, buffer }
+    Outcome { answer, buffer, sector: sector[0] }
 }
 
 /// The calls in their order, each with its side.
@@ -94,7 +94,8 @@ fn assert_is_models(end: &End, model: &End, context: impl Fn() -> String) {
 fn assert_same_outcomes(given: &[Outcome], expected: &[Outcome], context: impl Fn() -> String) {
     assert_eq!(given.len(), expected.len(), "{}", context());
     for (index, (given, expected)) in given.iter().zip(expected).enumerate() {
-        assert_eq!(given.answer, expected.answer, "answer of call {index}, {}", context());
+        let [given_reply, reply] = [given, expected].map(|outcome| (outcome.answer, outcome.sector));
+        assert_eq!(given_reply, reply, "answer and sector of call {index}, {}", context());
         assert!(given.buffer == expected.buffer, "buffer of call {index}, {}", context());
     }
 }

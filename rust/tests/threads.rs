@@ -49,7 +49,7 @@ fn one_view_stops_all_threads() {
             scope.spawn(move || assert_eq!(write(number, 0xE7), Ok(())));
         }
     });
-    assert_eq!(write(PROTECTED, 0xE7), Err(Refusal::Protected));
+    assert_eq!(write(PROTECTED, 0xE7), Err(Refusal::Protected { sector: PROTECTED }));
     thread::scope(|scope| {
         for number in 0..THREADS {
             scope.spawn(move || assert_eq!(write(number, 0), Err(Refusal::Locked)));
@@ -65,7 +65,7 @@ fn copies_of_a_view_have_their_own_locks() {
     let mut image = vec![0; HOST_SIZE];
     let mut one = view();
     let mut other = one.clone();
-    assert_eq!(one.write(&mut image, PROTECTED, 1, &[1; 512]), Err(Refusal::Protected));
+    assert_eq!(one.write(&mut image, PROTECTED, 1, &[1; 512]), Err(Refusal::Protected { sector: PROTECTED }));
     assert_eq!(one.write(&mut image, 0, 1, &[1; 512]), Err(Refusal::Locked));
     assert_eq!(other.write(&mut image, 0, 1, &[1; 512]), Ok(()));
 }

@@ -4,7 +4,7 @@
 mod reference;
 
 use ondristela::raw;
-use reference::access::{self, Extent, View};
+use reference::access::{self, Answer, Extent, View};
 use reference::headers::{write_checksums, Header};
 use reference::layout::Layout;
 use reference::{opening, sector_map};
@@ -143,38 +143,50 @@ impl Both {
         Both { numbers: view.numbers(), view, image: vec![0; HOST_SIZE as usize] }
     }
 
-    fn assert_write(&mut self, first: u64, count: u64, expected: u64) {
-        let buffer = vec![0; 512 * count as usize];
-        let answer = raw::write(&mut self.numbers, &mut self.image, first, count, &buffer);
+    fn assert_write(&mut self, first: u64, count: u64, expected: Answer) {
+        let (buffer, mut sector) = (vec![0; 512 * count as usize], [UNTOLD]);
+        let answer = raw::write(&mut self.numbers, &mut self.image, first, count, &buffer, &mut sector);
         let reference = access::write(&mut self.view, &mut self.image, Extent { first, count }, &buffer);
-        assert_eq!([answer, reference], [expected; 2], "write {first} count {count}");
+        assert_told((answer, sector), reference, expected, &format!("write {first} count {count}"));
     }
 
-    fn assert_read(&mut self, first: u64, count: u64, expected: u64) {
-        let mut buffer = vec![0; 512 * count as usize];
-        let answer = raw::read(&self.numbers, &self.image, first, count, &mut buffer);
+    fn assert_read(&mut self, first: u64, count: u64, expected: Answer) {
+        let (mut buffer, mut sector) = (vec![0; 512 * count as usize], [UNTOLD]);
+        let answer = raw::read(&self.numbers, &self.image, first, count, &mut buffer, &mut sector);
         let reference = access::read(&self.view, &self.image, Extent { first, count }, &mut buffer);
-        assert_eq!([answer, reference], [expected; 2], "read {first} count {count}");
+        assert_told((answer, sector), reference, expected, &format!("read {first} count {count}"));
     }
+}
+
+/// What stands in a sector before a call.
+const UNTOLD: u64 = 0xA5A5_5A5A_0FF0_F00F;
+
+fn assert_told((answer, sector): (u64, [u64; 1]), reference: Answer, expected: Answer, call: &str) {
+    assert_eq!((answer, sector[0]), expected.stored_over(UNTOLD), "{call}");
+    assert_eq!(reference, expected, "{call}");
 }
 
 #[test]
 fn protected_writes() {
     let mut both = Both::new(access::protected(&M, &N).unwrap());
-    both.assert_write(1_023, 1, 0);
-    both.assert_write(1_023, 2, 18);
-    both.assert_write(0, 1, 17);
-    both.assert_read(0, 1, 0);
+    both.assert_write(1_023, 1, Answer::ACCEPTED);
+    both.assert_write(1_023, 2, Answer::telling(18, 1_024));
+    both.assert_write(0, 1, Answer::silent(17));
+    both.assert_read(0, 1, Answer::ACCEPTED);
 }
 
 #[test]
 fn writes_at_the_end_and_counts() {
     let mut both = Both::new(access::plain(&M).unwrap());
-    both.assert_write(1_536, 0, 0);
-    both.assert_write(1_536, 1, 16);
-    both.assert_write(1_537, 0, 16);
-    both.assert_write(0, 128, 0);
-    both.assert_read(0, 128, 0);
-    both.assert_write(0, 129, 14);
-    both.assert_read(0, 129, 14);
+    both.assert_write(1_536, 0, Answer::ACCEPTED);
+    both.assert_write(1_536, 1, Answer::telling(16, 1_536));
+    both.assert_write(1_537, 0, Answer::telling(16, 1_537));
+    both.assert_write(1_500, 100, Answer::telling(16, 1_536));
+    both.assert_read(1_500, 100, Answer::telling(16, 1_536));
+    both.assert_write(u64::MAX, 128, Answer::telling(16, u64::MAX));
+    both.assert_read(u64::MAX, 128, Answer::telling(16, u64::MAX));
+    both.assert_write(0, 128, Answer::ACCEPTED);
+    both.assert_read(0, 128, Answer::ACCEPTED);
+    both.assert_write(0, 129, Answer::silent(14));
+    both.assert_read(0, 129, Answer::silent(14));
 }

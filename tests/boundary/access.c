@@ -9,9 +9,9 @@ static void test_protection(void)
     struct ondristela_view view = protected_m;
 
     CHECK(write_sectors(&view, 1023, 1) == ONDRISTELA_ACCEPTED);
-    CHECK(write_sectors(&view, 1535, 2) == ONDRISTELA_REFUSED_OUTSIDE && view.locked == 0);
+    CHECK(refuses_write(&view, 1535, 2, ONDRISTELA_REFUSED_OUTSIDE, 1536) && view.locked == 0);
     CHECK(write_sectors(&view, 1024, 0) == ONDRISTELA_ACCEPTED);
-    CHECK(write_sectors(&view, 1023, 2) == ONDRISTELA_REFUSED_PROTECTED && view.locked == 1);
+    CHECK(refuses_write(&view, 1023, 2, ONDRISTELA_REFUSED_PROTECTED, 1024) && view.locked == 1);
     CHECK(write_sectors(&view, 0, 1) == ONDRISTELA_REFUSED_LOCKED);
     CHECK(write_sectors(&view, 0, 0) == ONDRISTELA_REFUSED_LOCKED);
     CHECK(write_sectors(&view, 1024, 1) == ONDRISTELA_REFUSED_LOCKED);
@@ -28,7 +28,7 @@ static void test_protection_inside(void)
     view.protected_end = 131072 + 11 * 512;
     CHECK(write_sectors(&view, 9, 1) == ONDRISTELA_ACCEPTED);
     CHECK(write_sectors(&view, 11, 1) == ONDRISTELA_ACCEPTED);
-    CHECK(write_sectors(&view, 9, 3) == ONDRISTELA_REFUSED_PROTECTED);
+    CHECK(refuses_write(&view, 9, 3, ONDRISTELA_REFUSED_PROTECTED, 10));
 }
 
 static void test_extents(void)
@@ -36,18 +36,18 @@ static void test_extents(void)
     struct ondristela_view view = plain_m;
 
     CHECK(write_sectors(&view, 1536, 0) == ONDRISTELA_ACCEPTED);
-    CHECK(write_sectors(&view, 1536, 1) == ONDRISTELA_REFUSED_OUTSIDE);
-    CHECK(write_sectors(&view, 1537, 0) == ONDRISTELA_REFUSED_OUTSIDE);
+    CHECK(refuses_write(&view, 1536, 1, ONDRISTELA_REFUSED_OUTSIDE, 1536));
+    CHECK(refuses_write(&view, 1537, 0, ONDRISTELA_REFUSED_OUTSIDE, 1537));
     CHECK(read_sectors(&view, 1536, 0) == ONDRISTELA_ACCEPTED);
-    CHECK(read_sectors(&view, 1536, 1) == ONDRISTELA_REFUSED_OUTSIDE);
-    CHECK(read_sectors(&view, 1537, 0) == ONDRISTELA_REFUSED_OUTSIDE);
+    CHECK(refuses_read(&view, 1536, 1, ONDRISTELA_REFUSED_OUTSIDE, 1536));
+    CHECK(refuses_read(&view, 1537, 0, ONDRISTELA_REFUSED_OUTSIDE, 1537));
     CHECK(write_sectors(&view, 0, 128) == ONDRISTELA_ACCEPTED);
     CHECK(write_sectors(&view, 1408, 128) == ONDRISTELA_ACCEPTED);
     CHECK(write_sectors(&view, 0, 129) == ONDRISTELA_REFUSED_COUNT);
     CHECK(read_sectors(&view, 0, 128) == ONDRISTELA_ACCEPTED);
     CHECK(read_sectors(&view, 0, 129) == ONDRISTELA_REFUSED_COUNT);
-    CHECK(write_sectors(&view, UINT64_MAX, 1) == ONDRISTELA_REFUSED_OUTSIDE);
-    CHECK(read_sectors(&view, UINT64_MAX, 1) == ONDRISTELA_REFUSED_OUTSIDE);
+    CHECK(refuses_write(&view, UINT64_MAX, 1, ONDRISTELA_REFUSED_OUTSIDE, UINT64_MAX));
+    CHECK(refuses_read(&view, UINT64_MAX, 1, ONDRISTELA_REFUSED_OUTSIDE, UINT64_MAX));
     CHECK(read_at(&view, HOST_SIZE, 0, UINT64_C(1) << 55, 0) == ONDRISTELA_REFUSED_COUNT);
 }
 
@@ -67,12 +67,12 @@ static void test_order_of_checks(void)
     CHECK(write_at(&view, HOST_SIZE, 1535, 129, 1) == ONDRISTELA_REFUSED_COUNT);
     CHECK(read_at(&view, HOST_SIZE, 1535, 2, 1) == ONDRISTELA_REFUSED_BUFFER_SIZE);
     CHECK(write_at(&view, HOST_SIZE, 1535, 2, 1) == ONDRISTELA_REFUSED_BUFFER_SIZE);
-    CHECK(read_at(&view, HOST_SIZE, 1535, 2, 1024) == ONDRISTELA_REFUSED_OUTSIDE);
-    CHECK(write_at(&view, HOST_SIZE, 1535, 2, 1024) == ONDRISTELA_REFUSED_OUTSIDE);
+    CHECK(refuses_read(&view, 1535, 2, ONDRISTELA_REFUSED_OUTSIDE, 1536));
+    CHECK(refuses_write(&view, 1535, 2, ONDRISTELA_REFUSED_OUTSIDE, 1536));
     CHECK(read_at(&view, HOST_SIZE, 1535, 1, 512) == ONDRISTELA_ACCEPTED);
     CHECK(write_at(&view, HOST_SIZE, 1535, 1, 512) == ONDRISTELA_REFUSED_LOCKED);
     view.locked = 0;
-    CHECK(write_at(&view, HOST_SIZE, 1535, 1, 512) == ONDRISTELA_REFUSED_PROTECTED);
+    CHECK(refuses_write(&view, 1535, 1, ONDRISTELA_REFUSED_PROTECTED, 1535));
 }
 
 void test_access(void)

@@ -112,7 +112,7 @@ static void test_booleans(void)
 
         view.protected_range = numbers[index];
         CHECK(write_sectors(&view, 1023, 1) == ONDRISTELA_ACCEPTED);
-        CHECK(write_sectors(&view, 1023, 2) == ONDRISTELA_REFUSED_PROTECTED);
+        CHECK(refuses_write(&view, 1023, 2, ONDRISTELA_REFUSED_PROTECTED, 1024));
         view.locked = numbers[index];
         CHECK(write_sectors(&view, 0, 1) == ONDRISTELA_REFUSED_LOCKED);
         CHECK(read_sectors(&view, 0, 1) == ONDRISTELA_ACCEPTED);

@@ -18,6 +18,7 @@ int main(void)
     test_search();
     test_views();
     test_access();
+    test_refused_sectors();
     test_made_up();
     test_example();
     return report_checks();

@@ -13,6 +13,7 @@ void test_writing_rules(void);
 void test_search(void);
 void test_views(void);
 void test_access(void);
+void test_refused_sectors(void);
 void test_made_up(void);
 void test_example(void);
 

@@ -1,12 +1,13 @@
 """The calls on views, each in a pair with its answer. A group of cases is a title and a list of such pairs."""
 from .openings import HOST
-from .records import MADE_UP, PLAIN, PROTECTED, READ, WRITE
+from .records import MADE_UP, PLAIN, PROTECTED, READ, READ_EXTENT, WRITE, WRITE_EXTENT
 from .reference_model import view
 from .sectors import hidden_layout, layout
 
 YES = MADE = 'accepted'
 N_RANGE = (655_360, 917_504)
 CLOSED = view(layout(), N_RANGE, True)
+NAMES = {READ: 'read', WRITE: 'write', READ_EXTENT: 'read extent', WRITE_EXTENT: 'write extent'}
 
 
 def plain(slot, fields=layout(), answer=MADE):
@@ -21,21 +22,23 @@ def make_up(slot, made_up):
     return MADE, {'request': MADE_UP, 'slot': slot, 'text': 'made up', 'view': made_up}
 
 
-def access(request, slot, extent, image, buffer, seed):
-    first, count = extent
-    text = f"{'read' if request == READ else 'write'} {first} count {count}"
+def access(request, slot, extent, image=HOST, buffer=None, seed=None):
+    first, count, *sector = extent
+    text = f'{NAMES[request]} {first} count {count}'
     text += '' if image == HOST else f', image of {image}'
     text += '' if buffer is None else f', buffer of {buffer}'
     return {'request': request, 'slot': slot, 'text': text, 'image': image, 'first': first, 'count': count,
-            'buffer': 512 * count if buffer is None else buffer, 'seed': seed}
+            'buffer': 512 * count if buffer is None else buffer, 'seed': seed, 'sector': sector[0] if sector else None}
 
 
-def accesses(requests, slot, answer, extents, image=HOST, buffer=None, seed=None):
-    return [(answer, access(request, slot, extent, image, buffer, seed)) for extent in extents for request in requests]
+def accesses(requests, slot, answer, extents, **lengths):
+    assert all(len(extent) == (3 if answer in (16, 18) else 2) for extent in extents), f'{answer}: {extents}'
+    return [(answer, access(request, slot, extent, **lengths)) for extent in extents for request in requests]
 
 
 def reads(slot, answer, *extents, **lengths):
-    """A read of each extent, a first sector and a count; image, buffer and seed where they are not as they should be."""
+    """A read of each extent: a first sector, a count and, where the answer tells one, the sector in the way. Image,
+    buffer and seed where they are not as they should be."""
     return accesses([READ], slot, answer, extents, **lengths)
 
 
@@ -46,3 +49,8 @@ def writes(slot, answer, *extents, **lengths):
 def both(slot, answer, *extents, **lengths):
     """A read and then a write of each extent."""
     return accesses([READ, WRITE], slot, answer, extents, **lengths)
+
+
+def both_extents(slot, answer, *extents, **lengths):
+    """The same of the calls that only tell where the bytes are."""
+    return accesses([READ_EXTENT, WRITE_EXTENT], slot, answer, extents, **lengths)

@@ -67,16 +67,16 @@ PAIRS = [
 
 PAIR_CALLS = [
     ('protecting the whole of M', [
-        protect(0, layout(), EQUAL), *writes(0, YES, (0, 0)), *writes(0, 18, (0, 1)),
-        protect(0, layout(), EQUAL), *writes(0, 18, (1_535, 1)), *reads(0, YES, (0, 1)),
+        protect(0, layout(), EQUAL), *writes(0, YES, (0, 0)), *writes(0, 18, (0, 1, 0)),
+        protect(0, layout(), EQUAL), *writes(0, 18, (1_535, 1, 1_535)), *reads(0, YES, (0, 1)),
     ]),
     ('protecting the last sector of M', [
         protect(0, layout(), hidden_layout(data_start=916_992, data_size=512)),
-        *writes(0, YES, (1_407, 128)), *writes(0, 18, (1_408, 128)),
+        *writes(0, YES, (1_407, 128)), *writes(0, 18, (1_408, 128, 1_535)),
     ]),
     ('a refused making leaves the view', [
         protect(0), protect(0, layout(), layout(), answer=12), plain(0, layout(data_size=0), answer=11),
-        *writes(0, 18, (1_024, 1)), protect(0, layout(), layout(), answer=12), *writes(0, 17, (0, 1)),
+        *writes(0, 18, (1_024, 1, 1_024)), protect(0, layout(), layout(), answer=12), *writes(0, 17, (0, 1)),
     ]),
 ]
 

@@ -8,9 +8,9 @@ OUTER_CALLS = [
     *writes(0, YES, (1_023, 1), seed=2),
     *reads(0, YES, (0, 3)),
     *writes(0, YES, (1, 2), seed=3),
-    *writes(0, 16, (1_535, 2), seed=4),
+    *writes(0, 16, (1_535, 2, 1_536), seed=4),
     *reads(0, YES, (1_022, 2)),
-    *writes(0, 18, (1_022, 3), seed=5),
+    *writes(0, 18, (1_022, 3, 1_024), seed=5),
     *writes(0, 17, (5, 1), seed=6),
     *reads(0, YES, (0, 8)),
 ]
@@ -18,7 +18,7 @@ OUTER_CALLS = [
 HIDDEN_CALLS = [
     *reads(1, YES, (0, 2)),
     *writes(1, YES, (0, 1), seed=11),
-    *writes(1, 16, (511, 2), seed=12),
+    *writes(1, 16, (511, 2, 512), seed=12),
     *writes(1, YES, (0, 3), seed=13),
     *reads(1, YES, (0, 4)),
     *writes(1, YES, (511, 1), seed=14),

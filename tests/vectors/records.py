@@ -7,7 +7,8 @@ them any bytes. Every number is eight bytes, big-endian.
 from typing import NamedTuple
 
 # What a record asks for, its body's first number.
-CHECKSUM, LOCATION, OPENING, WRITE_HEADER, MAP, PLAIN, PROTECTED, MADE_UP, READ, WRITE = range(10)
+(CHECKSUM, LOCATION, OPENING, WRITE_HEADER, MAP, PLAIN, PROTECTED, MADE_UP, READ, WRITE, READ_EXTENT,
+ WRITE_EXTENT) = range(12)
 
 
 class Case(NamedTuple):

@@ -1,5 +1,6 @@
 """Views as the rules have them, and a model of reads and writes that goes sector by sector."""
 import zlib
+from collections import namedtuple
 
 from .rules import host_sector, is_sound, sector_count
 from .openings import HOST
@@ -19,6 +20,9 @@ def sectors_of(start, end):
 def view(fields, protected=None, locked=False):
     """A view: its layout, the start and the end of its protected range or None, and its lock."""
     return {'layout': fields, 'protected': protected, 'locked': locked}
+
+
+NO_VIEW = view(dict.fromkeys(layout(), 0))
 
 
 def is_sound_view(v):
@@ -45,6 +49,19 @@ def protected_view(outer, hidden):
     return view(outer, (hidden['data_start'], hidden['data_start'] + hidden['data_size'])) if nests else 12
 
 
+def first_outside(fields, first, count):
+    """The first user sector of an extent that the sector map refuses; of an empty extent the first is asked for."""
+    return next(user for user in range(first, first + max(count, 1)) if host_sector(fields, user) == 'refused 16')
+
+
+def protected_sectors(v, first, count):
+    """The user sectors of an extent whose host sectors are in the protected range."""
+    if v['protected'] is None:
+        return []
+    hosts = sectors_of(*v['protected'])
+    return [user for user in range(first, first + count) if host_sector(v['layout'], user) in hosts]
+
+
 def filled(size, seed):
     """What an image or a buffer is filled with, as crates/vectors/src/image.rt does it."""
     content, state = bytearray(size), seed
@@ -54,56 +71,64 @@ def filled(size, seed):
     return bytes(content)
 
 
+# What a call answers, a refusal number or 'accepted', and tells: the user sector that was in the way, and what is left,
+# the buffer of a read or write, or the offset of an extent that is accepted.
+Told = namedtuple('Told', 'answer sector left', defaults=(None, None))
+
+
 class ReferenceModel:
-    """The sectors of the image and a byte more, and two views. A call's answer is a refusal number or 'accepted'."""
+    """The sectors of the image and a byte more, and two views."""
 
     def __init__(self):
         image = filled(HOST + 1, 0)
         self.sectors = [image[start:start + 512] for start in range(0, HOST, 512)]
         self.last_byte = image[HOST:]
-        self.views = [view(dict.fromkeys(layout(), 0))] * 2
+        self.views = [NO_VIEW] * 2
 
     def checksum(self):
         return zlib.crc32(b''.join(self.sectors) + self.last_byte)
 
-    def refusal(self, v, is_write, image_size, first, count, buffer_size):
+    def judge(self, slot, is_write, image_size, first, count, buffer_size):
+        """The answer and the sector. 18 closes the lock."""
+        v = self.views[slot]
         if not is_sound_view(v):
-            return 11
+            return Told(11)
         if image_size != v['layout']['host_size']:
-            return 13
+            return Told(13)
         if count > 128:
-            return 14
+            return Told(14)
         if buffer_size != 512 * count:
-            return 15
+            return Told(15)
         if first + count > sector_count(v['layout']):
-            return 16
+            return Told(16, first_outside(v['layout'], first, count))
         if is_write and v['locked']:
-            return 17
-        if is_write and v['protected'] and any(
-                host in sectors_of(*v['protected']) for host in self.covered(v, first, count)):
-            return 18
-        return None
-
-    def covered(self, v, first, count):
-        return [host_sector(v['layout'], user) for user in range(first, first + count)]
+            return Told(17)
+        if is_write and protected_sectors(v, first, count):
+            self.views[slot] = {**v, 'locked': True}
+            return Told(18, protected_sectors(v, first, count)[0])
+        return Told('accepted')
 
     def call(self, slot, is_write, image_size, first, count, buffer):
-        """The answer, and the buffer as the call leaves it."""
-        v = self.views[slot]
-        refusal = self.refusal(v, is_write, image_size, first, count, len(buffer))
-        if refusal == 18:
-            self.views[slot] = {**v, 'locked': True}
-        if refusal:
-            return refusal, buffer
-        hosts = self.covered(v, first, count)
+        """A read or a write, with the buffer as it is left."""
+        told = self.judge(slot, is_write, image_size, first, count, len(buffer))
+        if told.answer != 'accepted':
+            return told._replace(left=buffer)
+        hosts = [host_sector(self.views[slot]['layout'], user) for user in range(first, first + count)]
         if not is_write:
-            return 'accepted', b''.join(self.sectors[host] for host in hosts)
+            return told._replace(left=b''.join(self.sectors[host] for host in hosts))
         for piece, host in enumerate(hosts):
             self.sectors[host] = buffer[512 * piece:512 * piece + 512]
-        return 'accepted', buffer
+        return told._replace(left=buffer)
+
+    def extent(self, slot, is_write, image_size, first, count, buffer_size):
+        """Where a read or a write finds its bytes."""
+        told = self.judge(slot, is_write, image_size, first, count, buffer_size)
+        if told.answer != 'accepted':
+            return told
+        return told._replace(left=512 * (area(self.views[slot]['layout']).start + first))
 
     def make(self, slot, made):
         if isinstance(made, int):
-            return made
+            return Told(made)
         self.views[slot] = made
-        return 'accepted'
+        return Told('accepted')

@@ -1,19 +1,35 @@
 """The cases of views, run on the reference model."""
 import zlib
 
+from .calls import YES
+from .extent_cases import extent_groups
+from .generated_cases import generated_groups
 from .making_cases import making_groups
 from .order_cases import order_groups, ORDERS
-from .records import Case, MADE_UP, outcome, PLAIN, PROTECTED, READ, same, spaced, WRITE
+from .records import (Case, MADE_UP, outcome, PLAIN, PROTECTED, READ, READ_EXTENT, same, spaced, WRITE,
+                      WRITE_EXTENT)
 from .reference_model import filled, plain_view, protected_view, ReferenceModel
-from .calls import YES
+from .sector_cases import SECTOR_GROUPS
 from .view_cases import ACCESS_GROUPS
+
+# What the cells for the sector and the offset hold before a call: this and its seed, which no call tells.
+SECTOR_BEFORE, OFFSET_BEFORE = 10**18, 2 * 10**18
+
+# The answers that generated calls must reach; those whose answer is written by hand reach 11 and 13 too.
+READ_ANSWERS = {YES, 14, 15, 16}
+WRITE_ANSWERS = READ_ANSWERS | {17, 18}
+ANSWERS = {READ: READ_ANSWERS, READ_EXTENT: READ_ANSWERS, WRITE: WRITE_ANSWERS, WRITE_EXTENT: WRITE_ANSWERS}
+
+
+def all_groups():
+    accesses = [*ACCESS_GROUPS, *SECTOR_GROUPS]
+    return [*accesses, *making_groups(), *order_groups(), *extent_groups(accesses), *generated_groups()]
 
 
 def calls():
-    """Every call as its group's title, its name, its answer and itself. A read or a write has a seed, its own where none
-    was said."""
+    """Every call as its group's title, its name, its answer and itself. It has a seed, its own where none was said."""
     number = 0
-    for title, group in [*ACCESS_GROUPS, *making_groups(), *order_groups()]:
+    for title, group in all_groups():
         for place, (answer, call) in enumerate(group, start=1):
             number += 1
             seed = number if call.get('seed') is None else call['seed']
@@ -31,39 +47,57 @@ def numbers(call):
         return [number for fields in call['layouts'] for number in fields.values()]
     if call['request'] == MADE_UP:
         return view_numbers(call['view'])
-    return [call[field] for field in ('image', 'first', 'count', 'buffer', 'seed')]
+    asked = [call[field] for field in ('image', 'first', 'count', 'buffer')]
+    before = call['seed'] if call['request'] in (READ, WRITE) else OFFSET_BEFORE + call['seed']
+    return [*asked, before, SECTOR_BEFORE + call['seed']]
 
 
 def run_call(model, call):
-    """The model's answer to a call, and the buffer as the call leaves it, None for a making."""
+    """What the model tells."""
     request, slot = call['request'], call['slot']
     if request == PLAIN:
-        return model.make(slot, plain_view(*call['layouts'])), None
+        return model.make(slot, plain_view(*call['layouts']))
     if request == PROTECTED:
-        return model.make(slot, protected_view(*call['layouts'])), None
+        return model.make(slot, protected_view(*call['layouts']))
     if request == MADE_UP:
-        return model.make(slot, call['view']), None
-    buffer = filled(call['buffer'], call['seed'])
-    return model.call(slot, request == WRITE, call['image'], call['first'], call['count'], buffer)
+        return model.make(slot, call['view'])
+    is_write, extent = request in (WRITE, WRITE_EXTENT), (call['image'], call['first'], call['count'])
+    if request in (READ_EXTENT, WRITE_EXTENT):
+        return model.extent(slot, is_write, *extent, call['buffer'])
+    return model.call(slot, is_write, *extent, filled(call['buffer'], call['seed']))
 
 
-def answers(call, answer, buffer, model):
-    sums = [] if buffer is None else [('buffer ', f'{zlib.crc32(buffer):08x}'), ('image ', f'{model.checksum():08x}')]
-    return [('', outcome(answer)), *sums, ('view', spaced(view_numbers(model.views[call['slot']])))]
+def cell(told, before):
+    """A cell that is left as it was where nothing is told."""
+    return before if told is None else told
+
+
+def answers(call, told, model):
+    printed = [('', outcome(told.answer))]
+    sector = ('sector ', cell(told.sector, SECTOR_BEFORE + call['seed']))
+    if call['request'] in (READ, WRITE):
+        sums = f'{zlib.crc32(told.left):08x}', f'{model.checksum():08x}'
+        printed += [sector, ('buffer ', sums[0]), ('image ', sums[1])]
+    if call['request'] in (READ_EXTENT, WRITE_EXTENT):
+        printed += [('offset ', cell(told.left, OFFSET_BEFORE + call['seed'])), sector]
+    return [*printed, ('view', spaced(view_numbers(model.views[call['slot']])))]
 
 
 def views():
     model = ReferenceModel()
-    given, groups = set(), {}
+    given, groups = {'by hand': set(), 'generated': set()}, {}
     for title, name, answer, call in calls():
-        computed, buffer = run_call(model, call)
-        same(name, answer, computed)
-        given.add((call['request'], answer))
+        told = run_call(model, call)
+        if answer is not None:
+            same(name, (answer, call.get('sector')), (told.answer, told.sector))
+        given['generated' if answer is None else 'by hand'].add((call['request'], told.answer))
         group = groups.setdefault(title, {0: [], 1: []})
-        group[call['slot']].append((computed, buffer))
+        group[call['slot']].append(told)
         group['after'] = (list(model.sectors), list(model.views))
-        yield Case(call['request'], name, answers(call, computed, buffer, model), numbers(call), slot=call['slot'])
-    assert given >= {(READ, n) for n in (YES, 11, 13, 14, 15, 16)} | {(WRITE, n) for n in (YES, 11, *range(13, 19))}
+        yield Case(call['request'], name, answers(call, told, model), numbers(call), slot=call['slot'])
+    for source, others in (('generated', set()), ('by hand', {11, 13})):
+        missing = {(request, answer) for request in ANSWERS for answer in ANSWERS[request] | others} - given[source]
+        assert not missing, f'{source}, these requests never have these answers: {missing}'
     for title in ('before order', 'order'):
         first, *others = [groups[f'{title} {order}'] for order in ORDERS]
-        assert others == [first] * len(others), f'{title}: the three differ in an answer, a buffer, the image or a view'
+        assert others == [first] * len(others), f'{title}: the three differ in what they tell, the image or a view'

@@ -1,6 +1,7 @@
 // Records that ask for a read or, by any other number, a write: the length of the image, the first
-// sector and the count, the length of the buffer, and what it is filled from. What the call leaves is
-// printed: checksums of the buffer and of the whole image, and the view.
+// sector and the count, the length of the buffer, what it is filled from, and what the sector is before
+// the call. What the call leaves is printed: the sector, checksums of the buffer and of the whole image,
+// and the view.
 use crate::image;
 use crate::input;
 use crate::print;
@@ -8,15 +9,17 @@ use crate::views;
 
 const READ: u64 = 8;
 
-const IMAGE_SIZE: usize = 2;
+pub const IMAGE_SIZE: usize = 2;
 
-const FIRST: usize = 3;
+pub const FIRST: usize = 3;
 
-const COUNT: usize = 4;
+pub const COUNT: usize = 4;
 
-const BUFFER_SIZE: usize = 5;
+pub const BUFFER_SIZE: usize = 5;
 
 const SEED: usize = 6;
+
+pub const SECTOR: usize = 7;
 
 // 130 sectors: more than a call may move.
 const BUFFER_SPACE: usize = 66_560;
@@ -34,16 +37,24 @@ fn lend(image: &mut [u8], view: &mut [u64; views::SIZE], body: &[u8], space: &mu
     let buffer_size = input::within(input::number(body, BUFFER_SIZE), space);
     let buffer = &mut space[..buffer_size];
     image::fill(buffer, input::number(body, SEED));
-    let refusal = call(&mut image[..image_size], view, body, buffer);
+    let mut sector = [input::number(body, SECTOR)];
+    let refusal = call(&mut image[..image_size], view, body, buffer, &mut sector);
     print::answer(refusal);
+    print::cell(&sector);
     print::checksum(buffer);
 }
 
-fn call(image: &mut [u8], view: &mut [u64; views::SIZE], body: &[u8], buffer: &mut [u8]) -> u64 {
+fn call(
+    image: &mut [u8],
+    view: &mut [u64; views::SIZE],
+    body: &[u8],
+    buffer: &mut [u8],
+    sector: &mut [u64; 1],
+) -> u64 {
     let first = input::number(body, FIRST);
     let count = input::number(body, COUNT);
     if input::number(body, 0) == READ {
-        return ondristela::ondristela_read(view, image, first, count, buffer);
+        return ondristela::ondristela_read(view, image, first, count, buffer, sector);
     }
-    ondristela::ondristela_write(view, image, first, count, buffer)
+    ondristela::ondristela_write(view, image, first, count, buffer, sector)
 }

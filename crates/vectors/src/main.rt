@@ -2,6 +2,7 @@
 // that they ask for, with the texts that they have for them. Assumes nothing.
 mod access;
 mod checks;
+mod extents;
 mod headers;
 mod image;
 mod input;
@@ -26,6 +27,10 @@ const PLAIN: u64 = 5;
 const PROTECTED: u64 = 6;
 
 const MADE_UP: u64 = 7;
+
+const READ_EXTENT: u64 = 10;
+
+const WRITE_EXTENT: u64 = 11;
 
 // The slot of the view that a record is for, the second number of its body.
 const SLOT: usize = 1;
@@ -86,6 +91,8 @@ fn run(image: &mut [u8; image::SPACE], view: &mut [u64; views::SIZE], body: &[u8
         PLAIN => views::make_plain(view, body),
         PROTECTED => views::make_protected(view, body),
         MADE_UP => views::make_up(view, body),
+        READ_EXTENT => extents::run(view, body),
+        WRITE_EXTENT => extents::run(view, body),
         _ => access::run(image, view, body),
     }
 }

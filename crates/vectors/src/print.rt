@@ -7,6 +7,11 @@ pub fn number(number: u64) {
     io::print_decimal(1, number);
 }
 
+// What a call stored, or left.
+pub fn cell(cell: &[u64; 1]) {
+    number(cell[0]);
+}
+
 // Each number with a space before it.
 pub fn numbers(list: &[u64]) {
     input::copy_text();

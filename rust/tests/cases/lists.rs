@@ -122,7 +122,7 @@ fn call(layouts: &[Layout; 2], side: usize, avoids_hidden: bool, random: &mut Ra
     };
     let mut buffer = vec![0; extents::buffer_size(extent.count, 2 * 65_536, random)];
     random.fill(&mut buffer);
-    Call { writes, extent, buffer }
+    Call { writes, extent, buffer, sector: random.number() }
 }
 
 fn short(extent: Extent, random: &mut Random) -> Extent {

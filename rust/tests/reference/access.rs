@@ -25,6 +25,32 @@ pub struct Extent {
     pub count: u64,
 }
 
+/// What a read or a write answers: 0 or a refusal's number, and the sector in the way that it tells, if it does.
+#[derive(Clone, Copy, Debug, PartialEq, Eq)]
+pub struct Answer {
+    pub number: u64,
+    pub sector: Option<u64>,
+}
+
+impl Answer {
+    pub const ACCEPTED: Answer = Answer::silent(0);
+
+    /// An answer that tells no sector.
+    pub const fn silent(number: u64) -> Answer {
+        Answer { number, sector: None }
+    }
+
+    /// An answer that tells the sector in the way.
+    pub const fn telling(number: u64, sector: u64) -> Answer {
+        Answer { number, sector: Some(sector) }
+    }
+
+    /// The number, and what a call leaves where it stores the sector: what stood there, unless it tells one.
+    pub fn stored_over(self, stood: u64) -> (u64, u64) {
+        (self.number, self.sector.unwrap_or(stood))
+    }
+}
+
 impl View {
     pub fn numbers(&self) -> [u64; 12] {
         let mut numbers = [0; 12];
@@ -89,46 +115,63 @@ fn nests(outer: &Layout, hidden: &Layout) -> bool {
         && hidden.data_end() <= outer.data_end()
 }
 
-/// The checks that reads and writes share, in order. 0 where none refuses.
-pub fn refusal(view: &View, image_size: usize, extent: Extent, buffer_size: usize) -> u64 {
+/// The checks that reads and writes share, in order.
+pub fn answer(view: &View, image_size: usize, extent: Extent, buffer_size: usize) -> Answer {
     if !view.is_sound() {
-        return 11;
+        return Answer::silent(11);
     }
     if image_size as u128 != u128::from(view.layout.host_size) {
-        return 13;
+        return Answer::silent(13);
     }
     if extent.count > MAX_COUNT {
-        return 14;
+        return Answer::silent(14);
     }
     if buffer_size as u128 != u128::from(SECTOR) * u128::from(extent.count) {
-        return 15;
+        return Answer::silent(15);
     }
     if u128::from(extent.first) + u128::from(extent.count) > u128::from(view.layout.sector_count()) {
-        return 16;
+        return Answer::telling(16, first_outside(&view.layout, extent));
     }
-    0
+    Answer::ACCEPTED
 }
 
 /// The checks of a write: those, then 17 and 18.
-pub fn write_refusal(view: &View, image_size: usize, extent: Extent, buffer_size: usize) -> u64 {
-    let shared = refusal(view, image_size, extent, buffer_size);
-    if shared != 0 {
+pub fn write_answer(view: &View, image_size: usize, extent: Extent, buffer_size: usize) -> Answer {
+    let shared = answer(view, image_size, extent, buffer_size);
+    if shared != Answer::ACCEPTED {
         return shared;
     }
     if view.write_lock != 0 {
-        return 17;
+        return Answer::silent(17);
     }
-    if covered(&view.layout, extent).iter().any(|host| view.protects(*host)) {
-        return 18;
+    match first_protected(view, extent) {
+        Some(sector) => Answer::telling(18, sector),
+        None => Answer::ACCEPTED,
     }
-    0
+}
+
+/// The extent's user sectors, one after the other. The sum cannot wrap for one who stops at the volume's end.
+fn users(extent: Extent) -> impl Iterator<Item = u64> {
+    (0..extent.count).map(move |index| extent.first + index)
+}
+
+/// The sector in the way of an extent that reaches past the volume's end: the first of its sectors that the map
+/// refuses, or where it has none, the one at which it lies.
+fn first_outside(layout: &Layout, extent: Extent) -> u64 {
+    if extent.count == 0 {
+        return extent.first;
+    }
+    users(extent).find(|user| host_sector(layout, *user) == Err(16)).expect("a sector that the map refuses")
+}
+
+/// The first user sector of the extent whose host sector is protected.
+fn first_protected(view: &View, extent: Extent) -> Option<u64> {
+    users(extent).find(|user| host_sector(&view.layout, *user).is_ok_and(|host| view.protects(host)))
 }
 
 /// The host sectors that the map gives for the extent's user sectors.
 pub fn covered(layout: &Layout, extent: Extent) -> Vec<u64> {
-    (0..extent.count)
-        .map(|index| host_sector(layout, extent.first + index).expect("a sector of the data area"))
-        .collect()
+    users(extent).map(|user| host_sector(layout, user).expect("a sector of the data area")).collect()
 }
 
 fn bytes_of(host: u64) -> Range<usize> {
@@ -137,9 +180,9 @@ fn bytes_of(host: u64) -> Range<usize> {
 }
 
 /// Where a read is accepted, the buffer is filled with the covered sectors, one after the other.
-pub fn read(view: &View, image: &[u8], extent: Extent, buffer: &mut [u8]) -> u64 {
-    let answer = refusal(view, image.len(), extent, buffer.len());
-    if answer == 0 {
+pub fn read(view: &View, image: &[u8], extent: Extent, buffer: &mut [u8]) -> Answer {
+    let answer = answer(view, image.len(), extent, buffer.len());
+    if answer == Answer::ACCEPTED {
         let sectors = buffer.chunks_mut(SECTOR as usize);
         for (bytes, host) in sectors.zip(covered(&view.layout, extent)) {
             bytes.copy_from_slice(&image[bytes_of(host)]);
@@ -149,15 +192,15 @@ pub fn read(view: &View, image: &[u8], extent: Extent, buffer: &mut [u8]) -> u64
 }
 
 /// An accepted write copies each sector's bytes, in order, into the covered sectors; 18 closes the lock.
-pub fn write(view: &mut View, image: &mut [u8], extent: Extent, buffer: &[u8]) -> u64 {
-    let answer = write_refusal(view, image.len(), extent, buffer.len());
-    if answer == 0 {
+pub fn write(view: &mut View, image: &mut [u8], extent: Extent, buffer: &[u8]) -> Answer {
+    let answer = write_answer(view, image.len(), extent, buffer.len());
+    if answer == Answer::ACCEPTED {
         let sectors = buffer.chunks(SECTOR as usize);
         for (bytes, host) in sectors.zip(covered(&view.layout, extent)) {
             image[bytes_of(host)].copy_from_slice(bytes);
         }
     }
-    if answer == 18 {
+    if answer.number == 18 {
         view.write_lock = 1;
     }
     answer

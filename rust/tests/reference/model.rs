@@ -7,19 +7,22 @@ use super::access::{read, write, Extent, View};
 pub const OUTER: usize = 0;
 pub const INNER: usize = 1;
 
-/// One call of a list. A read has a buffer's bytes too: those that it is given.
+/// One call of a list. A read has a buffer's bytes too: those that it is given. `sector` is what stands where the
+/// sector in the way is told.
 #[derive(Clone, Debug)]
 pub struct Call {
     pub writes: bool,
     pub extent: Extent,
     pub buffer: Vec<u8>,
+    pub sector: u64,
 }
 
-/// What a call did: its answer, and its buffer as it was left.
+/// What a call did: its answer, and its buffer and its sector as they were left.
 #[derive(Clone, Debug, PartialEq, Eq)]
 pub struct Outcome {
     pub answer: u64,
     pub buffer: Vec<u8>,
+    pub sector: u64,
 }
 
 pub struct ReferenceModel {
@@ -36,6 +39,7 @@ impl ReferenceModel {
         } else {
             read(view, &self.image, call.extent, &mut buffer)
         };
-        Outcome { answer, buffer }
+        let (answer, sector) = answer.stored_over(call.sector);
+        Outcome { answer, buffer, sector }
     }
 }

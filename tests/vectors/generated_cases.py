@@ -1,0 +1,63 @@
+"""Calls near the ends of generated volumes and protected ranges. Their answers are the model's alone."""
+import hashlib
+
+from .calls import access, make_up
+from .records import READ, READ_EXTENT, WRITE, WRITE_EXTENT
+from .reference_model import view
+from .sectors import hidden_layout, layout, MOST
+
+LISTS = 40
+CALLS = 10
+
+
+class Choices:
+    """Numbers that look like chance and are the same every time."""
+
+    def __init__(self, seed):
+        self.seed, self.made = seed, 0
+
+    def below(self, end):
+        self.made += 1
+        return int.from_bytes(hashlib.sha256(f'{self.seed} {self.made}'.encode()).digest()[:8], 'big') % end
+
+    def one(self, *options):
+        return options[self.below(len(options))]
+
+
+def generated_view(choices):
+    """A view of a volume with 1 to 1,536 sectors, and the user sectors that are its ends or its protected range's."""
+    sectors = choices.one(1, 9, 200, 700, 1_536)
+    if choices.below(8) == 0:
+        sectors = min(sectors, 512)
+        return view(hidden_layout(data_size=512 * sectors)), [0, sectors]
+    first = choices.below(sectors)
+    end = min(first + choices.one(1, 2, 40, sectors), sectors)
+    protected = (131_072 + 512 * first, 131_072 + 512 * end)
+    return view(layout(data_size=512 * sectors), protected, choices.below(12) == 0), [0, first, end, sectors]
+
+
+def generated_call(choices, places):
+    """A call that begins near one of the places, or near the largest number."""
+    near = choices.one(*places, *places[1:3], *places[1:3], MOST)
+    first = min(max(near - 4 + choices.below(8), 0), MOST)
+    count = choices.one(0, 1, 2, 3, 4, 6, 9, 128, 129)
+    buffer = choices.one(*[None] * 19, 512)
+    request = choices.one(READ, WRITE, WRITE, READ_EXTENT, WRITE_EXTENT, WRITE_EXTENT)
+    return None, access(request, 0, (first, count), buffer=buffer)
+
+
+def generated_list(number):
+    """Calls on one view, which is made anew before some of them."""
+    choices = Choices(number)
+    made, places = generated_view(choices)
+    calls = [make_up(0, made)]
+    for _ in range(CALLS):
+        if choices.below(2) == 0:
+            calls.append(make_up(0, made))
+        calls.append(generated_call(choices, places))
+    return calls
+
+
+def generated_groups():
+    for number in range(1, LISTS + 1):
+        yield f'generated {number}', generated_list(number)
