@@ -3,14 +3,13 @@
 use Prim.Native.Nat.{ℕ, _+_, _-_, _*_, _≤_}
 use native.Mathlib.Omega.{arith}
 use native.Mathlib.Nat.{add-sub-cancel-left}
-use mathlib.Core.{Path.{_≡_, ap, _∙_}, Bool.false, List.{List, _++_, append-nil}}
+use mathlib.Core.{Path.{_≡_, ap, _∙_}, Bool.false, List.{List, append-nil}}
 use lib.{ListN.{length, take, drop, drop-of-length-le, length-take, length-drop}, Seq.length-take-le}
-use borrow.Author.Tests.{le-leb}
 use borrow.Rule.Slice.PartMut.{putMid}
 use Rattle.answers.specs.{Answers.isAccepted, declared.Answer.{Answer, the-variants.Accepted}}
 use Rattle.fields.specs.Bytes.{overlay}
 use Rattle.fields.proofs.OverlayLaws.{overlay-rest}
-use Rattle.copy.specs.Copy.{maxSize, copied}
+use Rattle.copy.{specs.Copy.copied, proofs.CopyLaws.copied-fits}
 use Rattle.layout.specs.{Rules.sectorBytes, declared.Layout.Layout}
 use Rattle.judgement.specs.Offsets.{extentStart}
 use Rattle.access.specs.Moving.{filledBy, writtenBy}
@@ -21,31 +20,25 @@ part-length image size offset h =
     let fits : size ≤ length (drop offset image) = simp length-drop (omega arith) in
     length-take-le size (drop offset image) fits
 
--- a source that fits is copied
-copied-fits : (source target : List ℕ) → length source ≤ maxSize → length source ≤ length target
-    → copied source target ≡ source ++ drop (length source) target
-unfolding copied
-copied-fits source target small fits = simp (le-leb _ _ small, le-leb _ _ fits)
-
 -- a buffer filled from the part of an image that starts at an offset and is as long
-pub copy-out : (image buffer : List ℕ) (offset : ℕ) → length buffer ≤ maxSize → offset + length buffer ≤ length image
+pub copy-out : (image buffer : List ℕ) (offset : ℕ) → offset + length buffer ≤ length image
     → copied (take (offset + length buffer - offset) (drop offset image)) buffer ≡ take (length buffer) (drop offset image)
-copy-out image buffer offset small fits =
+copy-out image buffer offset fits =
     let part = take (length buffer) (drop offset image) in
     let size = part-length image (length buffer) offset fits in
     let none : length buffer ≤ length part = omega (arith, size) in
     ap (λ (n : ℕ). copied (take n (drop offset image)) buffer) (add-sub-cancel-left offset (length buffer))
-    ∙ copied-fits part buffer (omega (arith, size)) (omega (arith, size))
+    ∙ copied-fits part buffer (omega (arith, size))
     ∙ rw (drop-of-length-le buffer none, append-nil)
 
 -- an image whose part from an offset on was written over from its start
-pub copy-in : (image buffer : List ℕ) (offset : ℕ) → length buffer ≤ maxSize → offset + length buffer ≤ length image
+pub copy-in : (image buffer : List ℕ) (offset : ℕ) → offset + length buffer ≤ length image
     → putMid offset (length image - offset) image (copied buffer (take (length image - offset) (drop offset image)))
     ≡ overlay offset buffer image
-copy-in image buffer offset small fits =
+copy-in image buffer offset fits =
     let rest = take (length image - offset) (drop offset image) in
     let room : length buffer ≤ length rest = simp (length-take, length-drop) (omega arith) in
-    ap (putMid offset (length image - offset) image) (copied-fits buffer rest small room) ∙ overlay-rest offset buffer image fits
+    ap (putMid offset (length image - offset) image) (copied-fits buffer rest room) ∙ overlay-rest offset buffer image fits
 
 module _ (answer : Answer) (layout : Layout) (image : List ℕ) (first : ℕ) (buffer : List ℕ) where
   pub filled-accepted : (count start : ℕ) → answer ≡ Accepted → start ≡ extentStart layout first → length buffer ≡ count * sectorBytes

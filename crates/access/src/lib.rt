@@ -5,7 +5,6 @@ ghost use mathlib.Core.Path.{_≡_};
 ghost use Prim.Native.Nat.{_+_, _≤_};
 ghost use lib.ListN.{length, take, drop};
 ghost use Rattle.fields.specs.Bytes.{overlay};
-ghost use Rattle.copy.specs.Copy.{maxSize};
 ghost use Rattle.judgement.specs.Judging.{readAnswer, writeAnswer};
 ghost use Rattle.access.specs.Moving.{filledBy, writtenBy};
 use answers::Answer;
@@ -82,7 +81,6 @@ pub fn write(
 
 // The image's bytes from an offset on, as many as the buffer has.
 fn fill(image: &[u8], start: u64, buffer: &mut [u8])
-    requires { ⌜ length (now buffer) ≤ maxSize ⌝ }
     requires { ⌜ start + length (now buffer) ≤ length (now image) ⌝ }
     ensures { λ _. ⌜ now (buffer .exit) ≡ take (length (now (buffer .entry))) (drop start (now (image .entry))) ⌝ }
 {
@@ -93,7 +91,6 @@ fn fill(image: &[u8], start: u64, buffer: &mut [u8])
 
 // The buffer over the image's bytes from an offset on.
 fn lay(image: &mut [u8], start: u64, buffer: &[u8])
-    requires { ⌜ length (now buffer) ≤ maxSize ⌝ }
     requires { ⌜ start + length (now buffer) ≤ length (now image) ⌝ }
     ensures { λ _. ⌜ now (image .exit) ≡ overlay start (now (buffer .entry)) (now (image .entry)) ⌝ }
 {

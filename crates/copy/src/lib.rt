@@ -1,34 +1,58 @@
-// The copy between a buffer and an image: at most 64 KiB, by way of a local buffer.
+// The copy between a buffer and an image: bytes over as many bytes, whatever their count. No sector is known here.
 // Assumes nothing; no public function has a `requires`.
 ghost use mathlib.Core.Path.{_≡_};
-ghost use mathlib.Core.List.{_++_};
-ghost use Prim.Native.Nat.{_≤_};
-ghost use lib.ListN.{length, drop};
+ghost use Prim.Native.Nat.{_+_, _<_, _≤_};
+ghost use lib.ListN.{length};
 ghost use Rattle.copy.specs.Copy.{copied};
 
-// The most bytes of one copy.
-pub const MAX_SIZE: usize = 65_536;
+// The most bytes of one chunk. No read or write moves more, so each is one chunk.
+const CHUNK_SIZE: usize = 65_536;
 
-// Copies all of from over the start of to. Does nothing where from is longer than to or than MAX_SIZE.
+// Copies all of from over the start of to. Does nothing where from is longer than to.
 pub fn copy(from: &[u8], to: &mut [u8])
     ensures { λ _. ⌜ now (to .exit) ≡ copied (now (from .entry)) (now (to .entry)) ⌝ }
 {
-    if MAX_SIZE < from.len() {
-        return;
-    }
     if to.len() < from.len() {
         return;
     }
-    copy_by_local(from, to);
+    let end = from.len();
+    copy_all(from, &mut to[..end]);
 }
 
-// Of two copies the compiler makes one move, and of a single one a slower loop.
-fn copy_by_local(from: &[u8], to: &mut [u8])
-    requires { ⌜ length (now from) ≤ 65536 ⌝ }
-    requires { ⌜ length (now from) ≤ length (now to) ⌝ }
-    ensures { λ _. ⌜ now (to .exit) ≡ now (from .entry) ++ drop (length (now (from .entry))) (now (to .entry)) ⌝ }
+// Two slices of one length, chunk by chunk.
+fn copy_all(from: &[u8], to: &mut [u8])
+    requires { ⌜ length (now to) ≡ length (now from) ⌝ }
+    ensures { λ _. ⌜ now (to .exit) ≡ now (from .entry) ⌝ }
 {
-    let mut local = [0u8; MAX_SIZE];
+    let mut done = 0;
+    while done < from.len() {
+        let end = chunk_end(done, from.len());
+        copy_chunk(&from[done..end], &mut to[done..end]);
+        done = end;
+    }
+}
+
+// Where the chunk that starts here ends: CHUNK_SIZE further on, or with the last byte.
+fn chunk_end(start: usize, size: usize) -> usize
+    requires { ⌜ start < size ⌝ }
+    ensures { λ r. ⌜ start < r ⌝ }
+    ensures { λ r. ⌜ r ≤ size ⌝ }
+    ensures { λ r. ⌜ r ≤ start + 65536 ⌝ }
+{
+    if size - start < CHUNK_SIZE {
+        size
+    } else {
+        start + CHUNK_SIZE
+    }
+}
+
+// Of two copies by way of a local the compiler makes one move, and of a single one a slower loop.
+fn copy_chunk(from: &[u8], to: &mut [u8])
+    requires { ⌜ length (now from) ≤ 65536 ⌝ }
+    requires { ⌜ length (now to) ≡ length (now from) ⌝ }
+    ensures { λ _. ⌜ now (to .exit) ≡ now (from .entry) ⌝ }
+{
+    let mut local = [0u8; CHUNK_SIZE];
     bytes::copy(from, &mut local);
     let size = from.len();
     bytes::copy(&local[..size], to);

@@ -2,9 +2,8 @@
 use Prim.Native.Nat.{ℕ, suc, _+_, _*_}
 use native.Mathlib.Omega.{arith}
 use mathlib.Core.Path.{refl, sym}
-use lib.ListN.{length}
 use Rattle.answers.specs.Answers.{isAccepted}
-use Rattle.copy.specs.Copy.{copied}
+use Rattle.copy.proofs.CopyLaws.{copied-fits, copied-none}
 use Rattle.judgement.specs.Offsets.{extentStart, placedBy}
 use Rattle.layout.specs.declared.Layout.{Layout}
 use Rattle.protection.specs.{Protection.{soundProtection, protectedExtent, paired}, declared.Protection.Protection}
@@ -28,7 +27,7 @@ area-reflects layout s host =
     (reflects-and (reflects-leb (layout .«data_start») (host * 512)) (reflects-leb (suc (host * 512)) (layout .«data_start» + layout .«data_size»)))
 
 pub keeps-parts : (layout hiddenLayout : Layout) (protection : Protection) → KeepsParts layout hiddenLayout protection
-unfolding soundProtection paired copied isAccepted extentStart placedBy
+unfolding soundProtection paired isAccepted extentStart placedBy
 keeps-parts layout hiddenLayout protection =
     let first = sound-reflects layout in
     let second = sound-reflects hiddenLayout in
@@ -48,7 +47,6 @@ keeps-parts layout hiddenLayout protection =
       starts = λ start. refl;
       noStart = λ start number. refl;
       noStartAt = λ start number sector. refl;
-      copies = λ from to few room. simp (is-true (reflects-leb (length from) 65536) few, is-true (reflects-leb (length from) (length to)) room);
-      copiesNothing = λ from to f.
-          simp (is-false (reflects-and (reflects-leb (length from) 65536) (reflects-leb (length from) (length to))) f);
+      copies = copied-fits;
+      copiesNothing = copied-none;
     }

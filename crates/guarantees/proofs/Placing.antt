@@ -6,7 +6,7 @@ use lib.{Dec.eqb, ListN.{length, take, drop}}
 use Rattle.answers.specs.{Answers.{isAccepted, answerRefusal}, declared.Answer.{Answer, the-variants.{Accepted, Refused, RefusedAt}}}
 use Rattle.layout.specs.declared.Layout.{Layout}
 use Rattle.judgement.specs.Offsets.{extentStart, placedBy}
-use Rattle.judgement.proofs.JudgingLaws.{read-passed, write-passed, passed-moves, namesSector, names-some, read-holds, write-holds}
+use Rattle.judgement.proofs.JudgingLaws.{read-passed, write-passed, passed-ends, namesSector, names-some, read-holds, write-holds}
 use Rattle.judgement.proofs.PlacementLaws.{placed-accepted, placed-refused, placed-refused-at, refused-placed, refused-at-placed}
 use Rattle.fields.specs.Bytes.{overlay}
 use Rattle.access.specs.Moving.{filledBy, writtenBy}
@@ -29,13 +29,13 @@ places-extents view image first count buffer =
       readTaken = λ offset e.
           let given = placed-accepted layout first refl e in
           let passed = read-passed _ _ _ _ _ _ refl (given .0) in (
-            record { starts = given .1; ends = omega (arith, given .1, passed-moves _ _ _ _ _ _ passed .1) },
+            record { starts = given .1; ends = omega (arith, given .1, passed-ends _ _ _ _ _ _ passed) },
             filled-accepted _ layout image first buffer count offset (given .0) (given .1) (passed .bufferWhole),
           );
       writeStored = λ offset e.
           let given = placed-accepted layout first refl e in
           let passed = write-passed _ _ _ _ _ _ _ refl (given .0) in (
-            record { starts = given .1; ends = omega (arith, given .1, passed-moves _ _ _ _ _ _ passed .1) },
+            record { starts = given .1; ends = omega (arith, given .1, passed-ends _ _ _ _ _ _ passed) },
             written-accepted _ layout image first buffer offset (given .0) (given .1),
           );
       readView = refl;

@@ -1,7 +1,7 @@
 -- What views, reads and writes are made of, each by itself: an acceptance, the soundness of what is protected, its user sectors, a pair of
 -- layouts, the lock after a write, an extent's first byte, and the copy. The definitions are those that the contracts of `protection`,
 -- `judgement` and `copy` cite. Assumes nothing.
-use Prim.Native.Nat.{ℕ, _+_, _*_, _≤_}
+use Prim.Native.Nat.{ℕ, _+_, _*_, _<_, _≤_}
 use mathlib.Core.{Path._≡_, Logic._↔_, Bool.{Bool, true, false}, List.{List, _++_}}
 use lib.ListN.{length, drop}
 use Rattle.judgement.specs.Judging.{lockedAfter}
@@ -41,6 +41,6 @@ pub record KeepsParts (layout hiddenLayout : Layout) (protection : Protection) :
   pub starts : (first : ℕ) → placedBy Accepted layout first ≡ placement.Offset (layout .«data_start» + first * 512)
   pub noStart : (first number : ℕ) → placedBy (Refused number) layout first ≡ placement.Refused number
   pub noStartAt : (first number sector : ℕ) → placedBy (RefusedAt number sector) layout first ≡ placement.RefusedAt number sector
-  -- a copy lays its bytes over the start; more than 64 KiB, or than there is room for, change nothing
-  pub copies : (from to : List ℕ) → length from ≤ 65536 → length from ≤ length to → copied from to ≡ from ++ drop (length from) to
-  pub copiesNothing : (from to : List ℕ) → (((length from ≤ 65536) × (length from ≤ length to)) → ⊥) → copied from to ≡ to
+  -- a copy lays its bytes over the start, however many they are; more than there is room for change nothing
+  pub copies : (from to : List ℕ) → length from ≤ length to → copied from to ≡ from ++ drop (length from) to
+  pub copiesNothing : (from to : List ℕ) → length to < length from → copied from to ≡ to

@@ -101,13 +101,10 @@ module _ (layout : Layout) (protection : Protection) (imageSize first count buff
   pub passed-starts : Passed → (sound layout ≡ true) × (first ≤ sectors layout)
   passed-starts p = (passed-layout p, omega (arith, p .inside))
 
-  -- what the moving of bytes asks for: they are few, and lie in the image
-  pub passed-moves : Passed → (bufferSize ≤ maxCount * sectorBytes) × (extentStart layout first + bufferSize ≤ imageSize)
+  -- what the moving of bytes asks for: they lie in the image
+  pub passed-ends : Passed → extentStart layout first + bufferSize ≤ imageSize
   unfolding extentStart sectors
-  passed-moves p = (
-    omega (arith, p .few, p .bufferWhole),
-    omega (arith, sound-ends layout (passed-layout p), p .imageWhole, p .bufferWhole, p .inside),
-  )
+  passed-ends p = omega (arith, sound-ends layout (passed-layout p), p .imageWhole, p .bufferWhole, p .inside)
 
   -- past the checks of every call, the later ones decide
   pub checked-passed : Passed → (later : Answer) → later ≡ checked layout protection imageSize first count bufferSize later

@@ -1,11 +1,9 @@
 -- `access::fill` meets its contract.
 -- Assumes nothing.
 use borrow.Author.Needs.{needs}
-use Prim.Native.Nat.{ℕ, _+_, _≤_}
-use mathlib.Core.{List.List, Path.{ap, _∙_}}
-use native.Mathlib.Omega.{arith}
+use Prim.Native.Nat.{ℕ}
+use mathlib.Core.{List.List, Path._∙_}
 use denote.Ref.{now}
-use lib.ListN.{length, take, drop}
 use Rattle.access.proofs.MovingLaws.{copy-out}
 use Rattle.access.proofs.fill.Statement.{statement}
 use Rattle.access.proofs.fill.Tie as tie
@@ -34,7 +32,7 @@ returns c =
     let start = copy .before .before .before .before .before in
     let image : List ℕ = now (start .args .image) in
     let buffer : List ℕ = now (start .args .buffer) in
-    copy .copy .ensures ∙ copy-out image buffer (start .args .start) (start .pre .0) (start .pre .1)
+    copy .copy .ensures ∙ copy-out image buffer (start .args .start) (start .pre)
 
 pub fill-spec : {M : Type 1} → statement M
 fill-spec =

@@ -33,7 +33,7 @@ returns c =
     let buffer : List ℕ = now (start .args .buffer) in
     let offset = start .args .start in
     ap (λ (bytes : List ℕ). putMid offset (length image - offset) image bytes) (copy .copy .ensures)
-    ∙ copy-in image buffer offset (start .pre .0) (start .pre .1)
+    ∙ copy-in image buffer offset (start .pre)
 
 pub lay-spec : {M : Type 1} → statement M
 lay-spec =

@@ -1,31 +1,47 @@
--- `copy::copy` meets its contract: it returns at once where the bytes are too many.
+-- `copy::copy` meets its contract: it returns at once where there is no room, and else as many bytes are copied over.
 -- Assumes nothing.
+use Prim.Native.Nat.{ℕ}
+use mathlib.Core.{Path.{sym, ap, _∙_}, List.{List, _++_}}
+use denote.Ref.{now}
+use lib.{ListN.{length, drop}, Seq.length-take-le}
 use borrow.Author.Needs.{needs}
-use borrow.Author.Tests.{le-leb, lt-leb}
-use Rattle.copy.specs.Copy.{copied}
+use Rattle.copy.proofs.CopyLaws.{copied-fits, copied-none}
 use Rattle.copy.proofs.copy.Statement.{statement}
 use Rattle.copy.proofs.copy.Tie as tie
 
 returns : tie.Need-returns
-unfolding copied
-returns c = simp (lt-leb _ _ (c .if1 .taken))
+returns c =
+    let args = c .before .before .before .args in
+    sym (copied-none (now (args .from)) (now (args .to)) (c .if1 .taken))
 
-returns-2 : tie.Need-returns-2
-unfolding copied
-returns-2 c = simp (le-leb _ _ (c .before .if1 .left), lt-leb _ _ (c .if2 .taken))
+slice-relend-prefix-copy-all : tie.Need-slice-relend-prefix-copy-all
+slice-relend-prefix-copy-all c = search needs
 
-copy-by-local-requires : tie.Need-copy-by-local-requires
-copy-by-local-requires c κs = search needs
+slice-aggregate-copy-all : tie.Need-slice-aggregate-copy-all
+slice-aggregate-copy-all c = sym (length-take-le _ _ (c .before .if1 .left))
+
+copy-all-requires : tie.Need-copy-all-requires
+copy-all-requires c κs = length-take-le _ _ (c .before .if1 .left)
 
 same-length : tie.Need-same-length
 same-length c = search needs
 
-returns-3 : tie.Need-returns-3
-unfolding copied
-returns-3 c =
-    let moved = c .before .before in
-    let fits = moved .before .before in
-    simp (le-leb _ _ (fits .before .if1 .left), le-leb _ _ (fits .if2 .left)) (moved .copy-by-local .ensures)
+returns-2 : tie.Need-returns-2
+returns-2 c =
+    let all = c .before .before in
+    let room = all .before .before in
+    let args = room .before .before .before .args in
+    let from : List ℕ = now (args .from) in
+    let to : List ℕ = now (args .to) in
+    ap (λ (bytes : List ℕ). bytes ++ drop (length from) to) (all .copy-all .ensures) ∙ sym (copied-fits from to (room .if1 .left))
 
 pub copy-spec : {M : Type 1} → statement M
-copy-spec = tie.close (tie.spec returns returns-2 copy-by-local-requires same-length returns-3)
+copy-spec =
+    tie.close
+    (tie.spec
+    returns
+    slice-relend-prefix-copy-all
+    slice-aggregate-copy-all
+    copy-all-requires
+    same-length
+    returns-2)

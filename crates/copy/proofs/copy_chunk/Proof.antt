@@ -1,16 +1,16 @@
--- `copy::copy_by_local` meets its contract: the local buffer starts with the bytes, and they are copied on.
+-- `copy::copy_chunk` meets its contract: the local starts with the bytes, and they are copied on.
 -- Assumes nothing.
 use mathlib.Core.{Path.{_≡_, sym, ap, _∙_}, List.{List, _++_}}
 use Prim.Native.Nat.{ℕ}
 use native.Mathlib.Omega.{arith}
 use denote.Ref.{now}
-use lib.{ListN.{length, replicate, take, drop}, Seq.take-length}
+use lib.ListN.{length, replicate, take, drop}
 use borrow.Author.Needs.{needs}
-use Rattle.copy.proofs.CopyLaws.{copied-first}
-use Rattle.copy.proofs.copy_by_local.Statement.{statement}
-use Rattle.copy.proofs.copy_by_local.Tie as tie
+use Rattle.copy.proofs.CopyLaws.{copied-first, copied-over}
+use Rattle.copy.proofs.copy_chunk.Statement.{statement}
+use Rattle.copy.proofs.copy_chunk.Tie as tie
 
--- the local buffer's first bytes are those that were copied to it
+-- the local's first bytes are those that were copied to it
 first : (c : tie.After-local3) →
     let copied = c .before .before in
     let start = copied .before .before .before in
@@ -43,15 +43,14 @@ returns : tie.Need-returns
 returns c =
     let on = c .before .before in
     let shared = on .before .before in
-    let start = shared .before .before .before in
-    let a = start .before .before .before .args in
-    let to : List ℕ = now (a .to) in
+    let start = shared .before .before .before .before .before .before in
+    let to : List ℕ = now (start .args .to) in
     on .copy2 .ensures .1
     ∙ ap (λ (bytes : List ℕ). take (length bytes) bytes ++ drop (length bytes) to) (first shared)
-    ∙ ap (λ (bytes : List ℕ). bytes ++ drop (length (now (a .from))) to) (take-length (now (a .from)))
+    ∙ copied-over (now (start .args .from)) to (start .pre .1)
 
-pub copy-by-local-spec : {M : Type 1} → statement M
-copy-by-local-spec =
+pub copy-chunk-spec : {M : Type 1} → statement M
+copy-chunk-spec =
     tie.close
     (tie.spec
     slice-aggregate-copy
