@@ -5,6 +5,10 @@
  * enciphered; a protected view refuses every write that would touch a hidden volume. Every function of the
  * library is proved to end and to meet its contract for all arguments, made-up layouts and views included.
  *
+ * Sectors. A sector is always 512 bytes here, and first sectors, counts, buffers and tweaks go by it on every
+ * disk. The disk's own sectors may be larger, as a layout's `sector_size` tells; then the extent of a read or write,
+ * its first sector and its count, must be whole ones of the disk's.
+ *
  * Answers. Every function but ondristela_crc32 returns ONDRISTELA_ACCEPTED, which is 0, or one refusal,
  * ONDRISTELA_REFUSED_..: of those that apply, the first in the order that the function's comment gives. A
  * refusal leaves all memory as it was, with two exceptions. ONDRISTELA_REFUSED_PROTECTED sets the view's
@@ -48,6 +52,8 @@
  *             return NULL;
  *         case ONDRISTELA_REFUSED_PROTECTED:
  *             return "that sector is the hidden volume's; the view takes no more writes";
+ *         case ONDRISTELA_REFUSED_UNALIGNED:
+ *             return "the disk has larger sectors, and only whole ones can be written";
  *         default:
  *             return "the outer volume has no such sector";
  *         }
@@ -111,25 +117,26 @@ extern "C" {
  * is supported. */
 #define ONDRISTELA_REFUSED_FLAGS 7
 
-/* The header's sector_size is not 512, the only one that is supported. */
+/* The sector_size, in the header or for one to be written, is none of 512, 1,024, 2,048 and 4,096. */
 #define ONDRISTELA_REFUSED_SECTOR_SIZE 8
 
 /* The header's hidden_size does not fit its location code; it must be 0 for a standard volume, and for a
  * hidden one equal to data_size and not 0. */
 #define ONDRISTELA_REFUSED_HIDDEN_SIZE 9
 
-/* The header's data area does not fit the host; it must be one or more whole 512-byte sectors, with
- * encrypted_size equal to data_size, that start at 131,072 (for a hidden volume there or at a later
- * multiple of 512) and end at least 131,072 bytes before the host's end. */
+/* The header's data area does not fit the host; host_size, data_start and data_size must be multiples of
+ * sector_size, data_size must equal encrypted_size and not be 0, and the data area must start at 131,072
+ * (for a hidden volume there or later) and end at least 131,072 bytes before the host's end. */
 #define ONDRISTELA_REFUSED_DATA_AREA 10
 
-/* The layout or view is unsound: its host_size is refused 3, its kind is neither standard nor hidden, its
- * data area does not fit the host as 10 has it, or its protected range is empty, not of whole sectors,
- * outside the data area or in a hidden volume; use one that an accepted call gave. */
+/* The layout or view is unsound: its host_size is refused 3, its sector_size 8, its kind is neither
+ * standard nor hidden, its data area does not fit the host as 10 has it, or its protected range is empty,
+ * not of whole 512-byte sectors, outside the data area or in a hidden volume; use one that an accepted
+ * call gave. */
 #define ONDRISTELA_REFUSED_UNSOUND 11
 
 /* The layouts do not nest; the first must be standard and the second hidden, with the same host_size and
- * its data area inside the first's. */
+ * sector_size and its data area inside the first's. */
 #define ONDRISTELA_REFUSED_NOT_NESTED 12
 
 /* The image is not host_size bytes long; pass the whole host. */
@@ -157,9 +164,13 @@ extern "C" {
 /* The magic of the header to be written is neither VERA nor TRUE. */
 #define ONDRISTELA_REFUSED_MAGIC 19
 
+/* First or count is no multiple of sector_size / 512, how many sectors of 512 bytes make one of the disk's
+ * own; widen the extent to whole ones. */
+#define ONDRISTELA_REFUSED_UNALIGNED 20
+
 /* end of refusals */
 
-/* Bytes of a sector, of a header, and of the salt and the keys in a header. */
+/* Bytes of a sector, whatever the disk's own have, of a header, and of the salt and the keys in a header. */
 #define ONDRISTELA_SECTOR_SIZE 512
 #define ONDRISTELA_HEADER_SIZE 512
 #define ONDRISTELA_SALT_SIZE 64
@@ -184,8 +195,9 @@ extern "C" {
 #define ONDRISTELA_MAGIC_TRUE 1
 
 /* Where a volume lies in its host, and what its header tells. It is sound where host_size keeps the rule of
- * refusal 3, kind is one of the two, and data_start and data_size keep the rules of refusal 10; the other
- * numbers do not matter. A caller may make one up: a call that takes an unsound one refuses 11. */
+ * refusal 3 and sector_size that of refusal 8, kind is one of the two, and host_size, data_start and data_size
+ * keep the rules of refusal 10; the other numbers do not matter. A caller may make one up: a call that takes an
+ * unsound one refuses 11. */
 struct ondristela_layout {
     uint64_t host_size;           /* bytes of the host */
     uint64_t kind;                /* ONDRISTELA_KIND_.. */
@@ -195,10 +207,11 @@ struct ondristela_layout {
     uint64_t data_start;          /* the data area's first byte in the host */
     uint64_t data_size;           /* bytes of the data area */
     uint64_t candidate;           /* the index of the candidate that was accepted */
+    uint64_t sector_size;         /* bytes of the disk's own sectors: 512, 1,024, 2,048 or 4,096 */
 };
 
 /* A volume to read and write. It is sound where its layout is and its protected range, if it has one, is not
- * empty and lies on 512-byte boundaries inside the data area of a standard volume. */
+ * empty and lies on 512-byte boundaries, whatever sector_size is, inside the data area of a standard volume. */
 struct ondristela_view {
     struct ondristela_layout layout;
     uint64_t protected_range; /* 0: there is none, and the next two do not matter; else there is one */
@@ -214,12 +227,12 @@ struct ondristela_range {
 };
 
 #if defined(__cplusplus)
-static_assert(sizeof(struct ondristela_layout) == 64, "a layout is eight numbers");
-static_assert(sizeof(struct ondristela_view) == 96, "a view is twelve numbers");
+static_assert(sizeof(struct ondristela_layout) == 72, "a layout is nine numbers");
+static_assert(sizeof(struct ondristela_view) == 104, "a view is thirteen numbers");
 static_assert(sizeof(struct ondristela_range) == 16, "a range is two numbers");
 #elif __STDC_VERSION__ >= 201112L
-_Static_assert(sizeof(struct ondristela_layout) == 64, "a layout is eight numbers");
-_Static_assert(sizeof(struct ondristela_view) == 96, "a view is twelve numbers");
+_Static_assert(sizeof(struct ondristela_layout) == 72, "a layout is nine numbers");
+_Static_assert(sizeof(struct ondristela_view) == 104, "a view is thirteen numbers");
 _Static_assert(sizeof(struct ondristela_range) == 16, "a range is two numbers");
 #endif
 
@@ -240,18 +253,19 @@ uint64_t ondristela_keys(const uint8_t *candidates, size_t candidates_size, cons
                          size_t codes_size, uint64_t host_size, struct ondristela_range *range);
 
 /* Writes the deciphered header of a volume over `header`, 512 bytes: both checksums are made, and what no field
- * takes is zero. `magic` is the four letters VERA or TRUE; `salt` is 64 bytes and `keys` 256. The code makes the
- * volume standard or hidden. ondristela_open accepts what is written, for the same code and host size, with the
- * same magic, versions, data_start and data_size.
- * Refusals: 1, 19, 2, 3, 5, 10, tested in this order. They leave the header as it was. */
+ * takes is zero. `magic` is the four letters VERA or TRUE; `sector_size` is that of the disk's own sectors; `salt`
+ * is 64 bytes and `keys` 256. The code makes the volume standard or hidden. ondristela_open accepts what is written,
+ * for the same code and host size, with the same magic, versions, data_start, data_size and sector_size.
+ * Refusals: 1, 19, 2, 3, 5, 8, 10, tested in this order. They leave the header as it was. */
 uint64_t ondristela_write_header(const uint8_t magic[4], uint16_t version, uint16_t min_program_version,
                                  uint8_t code, uint64_t host_size, uint64_t data_start, uint64_t data_size,
-                                 const uint8_t *salt, size_t salt_size, const uint8_t *keys,
-                                 size_t keys_size, uint8_t *header, size_t header_size);
+                                 uint64_t sector_size, const uint8_t *salt, size_t salt_size,
+                                 const uint8_t *keys, size_t keys_size, uint8_t *header,
+                                 size_t header_size);
 
 /* Stores the host sector that holds a user sector: one of the volume, counted from 0. Host sectors are
  * counted from the host's first byte, whatever the volume's kind. The number is also the user sector's tweak
- * number.
+ * number. Both count sectors of 512 bytes, whatever sector_size is.
  * Refusals: 11, 16. They leave *host as it was. */
 uint64_t ondristela_host_sector(const struct ondristela_layout *layout, uint64_t user, uint64_t *host);
 
@@ -267,14 +281,16 @@ uint64_t ondristela_tweak(const struct ondristela_layout *layout, uint64_t user,
  * Refusals: 11. It leaves *view as it was. */
 uint64_t ondristela_view_plain(const struct ondristela_layout *layout, struct ondristela_view *view);
 
-/* Stores a view of an outer volume that protects the data area of a hidden one, the write lock open.
+/* Stores a view of an outer volume that protects the data area of a hidden one, the write lock open. Both layouts
+ * must have the same host_size and the same sector_size.
  * Refusals: 11, 12. They leave *view as it was. */
 uint64_t ondristela_view_protected(const struct ondristela_layout *outer,
                                    const struct ondristela_layout *hidden, struct ondristela_view *view);
 
 /* Fills the buffer with `count` sectors of the image, from user sector `first` on. The image is the whole
  * host, the buffer 512 bytes for each sector. Neither the protected range nor the write lock hinders a read.
- * Refusals: 11, 13, 14, 15, 16. They leave the buffer as it was.
+ * `first` and `count` must be multiples of sector_size / 512, `first` also with a count of 0, or the answer is 20.
+ * Refusals: 11, 13, 14, 15, 20, 16, tested in this order. They leave the buffer as it was.
  * 16 sets *sector to the first user sector of the extent that is past the volume's end: the larger of `first` and
  * data_size / 512, which for a count of 0 is `first`. Every other answer leaves *sector as it was. */
 uint64_t ondristela_read(const struct ondristela_view *view, const uint8_t *image, size_t image_size,
@@ -282,9 +298,9 @@ uint64_t ondristela_read(const struct ondristela_view *view, const uint8_t *imag
                          uint64_t *sector);
 
 /* Copies the buffer into `count` sectors of the image, from user sector `first` on, and changes nothing else.
- * Image and buffer are as for ondristela_read.
- * Refusals: 11, 13, 14, 15, 16, 17, 18. They leave the image as it was, and the view too, except that 18 sets
- * its `locked` to 1: every later write is refused. A count of 0 is never refused 18.
+ * Image, buffer and extent are as for ondristela_read.
+ * Refusals: 11, 13, 14, 15, 20, 16, 17, 18, tested in this order. They leave the image as it was, and the view
+ * too, except that 18 sets its `locked` to 1: every later write is refused. A count of 0 is never refused 18.
  * 16 sets *sector as for ondristela_read, and 18 to the first user sector of the extent that is protected: the
  * larger of `first` and (protected_first - data_start) / 512. Every other answer leaves *sector as it was. */
 uint64_t ondristela_write(struct ondristela_view *view, uint8_t *image, size_t image_size, uint64_t first,
@@ -339,23 +355,24 @@ static inline const char *ondristela_refusal_text(uint64_t number)
         return "flag bit 0 or 1 of the header is set, which tells of a system volume or one encrypted in "
                "place; neither is supported";
     case ONDRISTELA_REFUSED_SECTOR_SIZE:
-        return "the header's sector_size is not 512, the only one that is supported";
+        return "the sector_size, in the header or for one to be written, is none of 512, 1,024, 2,048 and "
+               "4,096";
     case ONDRISTELA_REFUSED_HIDDEN_SIZE:
         return "the header's hidden_size does not fit its location code; it must be 0 for a standard "
                "volume, and for a hidden one equal to data_size and not 0";
     case ONDRISTELA_REFUSED_DATA_AREA:
-        return "the header's data area does not fit the host; it must be one or more whole 512-byte "
-               "sectors, with encrypted_size equal to data_size, that start at 131,072 (for a hidden "
-               "volume there or at a later multiple of 512) and end at least 131,072 bytes before the "
-               "host's end";
+        return "the header's data area does not fit the host; host_size, data_start and data_size must be "
+               "multiples of sector_size, data_size must equal encrypted_size and not be 0, and the data "
+               "area must start at 131,072 (for a hidden volume there or later) and end at least 131,072 "
+               "bytes before the host's end";
     case ONDRISTELA_REFUSED_UNSOUND:
-        return "the layout or view is unsound: its host_size is refused 3, its kind is neither standard "
-               "nor hidden, its data area does not fit the host as 10 has it, or its protected range is "
-               "empty, not of whole sectors, outside the data area or in a hidden volume; use one that an "
-               "accepted call gave";
+        return "the layout or view is unsound: its host_size is refused 3, its sector_size 8, its kind is "
+               "neither standard nor hidden, its data area does not fit the host as 10 has it, or its "
+               "protected range is empty, not of whole 512-byte sectors, outside the data area or in a "
+               "hidden volume; use one that an accepted call gave";
     case ONDRISTELA_REFUSED_NOT_NESTED:
         return "the layouts do not nest; the first must be standard and the second hidden, with the same "
-               "host_size and its data area inside the first's";
+               "host_size and sector_size and its data area inside the first's";
     case ONDRISTELA_REFUSED_IMAGE_SIZE:
         return "the image is not host_size bytes long; pass the whole host";
     case ONDRISTELA_REFUSED_COUNT:
@@ -373,6 +390,9 @@ static inline const char *ondristela_refusal_text(uint64_t number)
                "was written, and the view now refuses every write";
     case ONDRISTELA_REFUSED_MAGIC:
         return "the magic of the header to be written is neither VERA nor TRUE";
+    case ONDRISTELA_REFUSED_UNALIGNED:
+        return "first or count is no multiple of sector_size / 512, how many sectors of 512 bytes make one "
+               "of the disk's own; widen the extent to whole ones";
     /* end of sentences */
 
     default:

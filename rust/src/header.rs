@@ -17,6 +17,7 @@ use crate::{key_bytes, open, raw, Location, Magic, Refusal, HEADER_SIZE, SALT_SI
 ///     host_size: 1_048_576,
 ///     data_start: 131_072,
 ///     data_size: 786_432,
+///     sector_size: 512,
 ///     salt: &salt,
 ///     keys: &keys,
 /// };
@@ -40,6 +41,8 @@ pub struct NewHeader<'a> {
     pub data_start: u64,
     /// The data area's bytes.
     pub data_size: u64,
+    /// The bytes of the disk's own sectors: 512, 1,024, 2,048 or 4,096.
+    pub sector_size: u64,
     /// The salt, 64 bytes.
     pub salt: &'a [u8],
     /// The keys, 256 bytes.
@@ -66,6 +69,7 @@ impl<'a> NewHeader<'a> {
             host_size,
             data_start: layout.data_start,
             data_size: layout.data_size,
+            sector_size: layout.sector_size,
             salt: &header[..SALT_SIZE],
             keys: key_bytes(header, &codes, host_size)?,
         })
@@ -79,8 +83,8 @@ impl<'a> NewHeader<'a> {
         Ok(header)
     }
 
-    /// Writes these bytes over `header`, which is 512 bytes long. Refusals are `Lengths`, `HostSize`, `Version` and
-    /// `DataArea`, tested in this order; they leave `header` as it was.
+    /// Writes these bytes over `header`, which is 512 bytes long. Refusals are `Lengths`, `HostSize`, `Version`,
+    /// `SectorSize` and `DataArea`, tested in this order; they leave `header` as it was.
     pub fn write(&self, header: &mut [u8]) -> Result<(), Refusal> {
         let answer = raw::write_header(
             &self.magic.letters(),
@@ -90,6 +94,7 @@ impl<'a> NewHeader<'a> {
             self.host_size,
             self.data_start,
             self.data_size,
+            self.sector_size,
             self.salt,
             self.keys,
             header,

@@ -51,10 +51,13 @@ pub struct Layout {
     pub data_size: u64,
     /// Which of the candidates was accepted.
     pub candidate: u64,
+    /// The bytes of the disk's own sectors: 512, 1,024, 2,048 or 4,096. The sectors of this crate have 512 bytes
+    /// on every disk.
+    pub sector_size: u64,
 }
 
 impl Layout {
-    /// The layout as the library's eight numbers.
+    /// The layout as the library's nine numbers.
     pub fn numbers(&self) -> LayoutNumbers {
         [
             self.host_size,
@@ -65,13 +68,14 @@ impl Layout {
             self.data_start,
             self.data_size,
             self.candidate,
+            self.sector_size,
         ]
     }
 
     // An accepted layout has no kind and no magic but 0 and 1.
     pub(crate) fn opened(numbers: &LayoutNumbers) -> Layout {
-        let [host_size, kind, magic, version, min_program_version, data_start, data_size, candidate] =
-            *numbers;
+        let [host_size, kind, magic, version, min_program_version, ..] = *numbers;
+        let [.., data_start, data_size, candidate, sector_size] = *numbers;
         Layout {
             host_size,
             kind: if kind == 0 { Kind::Standard } else { Kind::Hidden },
@@ -81,12 +85,19 @@ impl Layout {
             data_start,
             data_size,
             candidate,
+            sector_size,
         }
     }
 
     /// How many sectors the volume has.
     pub fn sector_count(&self) -> u64 {
         self.data_size / SECTOR_SIZE as u64
+    }
+
+    /// How many sectors make one of the disk's own: 1, 2, 4 or 8 in a sound layout. A read or write is refused
+    /// `Unaligned` unless its first sector and its count are multiples of it.
+    pub fn alignment(&self) -> u64 {
+        self.sector_size / SECTOR_SIZE as u64
     }
 
     /// The host sector that holds a user sector.

@@ -21,6 +21,9 @@
 //! A read or write that reaches past the volume's end, and a write that would touch the hidden volume, are refused
 //! with the sector in the way: [`Refusal::Outside`], [`Refusal::Protected`].
 //!
+//! A sector has 512 bytes here, whatever the disk's own have. On a disk with larger ones, up to 4,096 bytes, a read or
+//! write must be of whole ones, which [`Layout::alignment`] tells, or it is refused [`Refusal::Unaligned`].
+//!
 //! [`NewHeader`] writes the header of a new volume, which [`open`] then accepts.
 //!
 //! A disk that is too large to map is read and written by the caller itself, where the view says. A write asks
@@ -50,7 +53,7 @@ pub use opening::{key_bytes, open, Location};
 pub use refusal::Refusal;
 pub use view::View;
 
-/// A sector's bytes.
+/// A sector's bytes, on every disk. [`Layout::sector_size`] has those of the disk's own sectors.
 pub const SECTOR_SIZE: usize = 512;
 
 /// A header's bytes.

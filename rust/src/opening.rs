@@ -46,7 +46,7 @@ impl Location {
 /// of each one's location. The first that is accepted gives the layout; without one, the first that is a
 /// header gives the refusal.
 pub fn open(candidates: &[u8], codes: &[u8], host_size: u64) -> Result<Layout, Refusal> {
-    let mut numbers = [0; 8];
+    let mut numbers = [0; 9];
     Refusal::check(raw::open(candidates, codes, host_size, &mut numbers), None)?;
     Ok(Layout::opened(&numbers))
 }

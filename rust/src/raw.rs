@@ -6,12 +6,12 @@
 //! any arguments: every one is proved with no condition on them.
 
 /// A layout's numbers: host size, kind, magic, version, min program version, data start, data size,
-/// candidate.
-pub type LayoutNumbers = [u64; 8];
+/// candidate, sector size.
+pub type LayoutNumbers = [u64; 9];
 
 /// A view's numbers: its layout's, then whether a range is protected, the range's first byte and the byte
 /// past its end, and whether writes are locked.
-pub type ViewNumbers = [u64; 12];
+pub type ViewNumbers = [u64; 13];
 
 mod library {
     use super::{LayoutNumbers, ViewNumbers};
@@ -22,7 +22,7 @@ mod library {
         pub fn ondristela_location(code: u8, host_size: u64, offset: *mut [u64; 1]) -> u64;
         pub fn ondristela_open(candidates: *const u8, candidates_size: usize, codes: *const u8, codes_size: usize, host_size: u64, layout: *mut LayoutNumbers) -> u64;
         pub fn ondristela_keys(candidates: *const u8, candidates_size: usize, codes: *const u8, codes_size: usize, host_size: u64, range: *mut [u64; 2]) -> u64;
-        pub fn ondristela_write_header(magic: *const [u8; 4], version: u16, min_program_version: u16, code: u8, host_size: u64, data_start: u64, data_size: u64, salt: *const u8, salt_size: usize, keys: *const u8, keys_size: usize, header: *mut u8, header_size: usize) -> u64;
+        pub fn ondristela_write_header(magic: *const [u8; 4], version: u16, min_program_version: u16, code: u8, host_size: u64, data_start: u64, data_size: u64, sector_size: u64, salt: *const u8, salt_size: usize, keys: *const u8, keys_size: usize, header: *mut u8, header_size: usize) -> u64;
         pub fn ondristela_host_sector(layout: *const LayoutNumbers, user: u64, host: *mut [u64; 1]) -> u64;
         pub fn ondristela_user_sector(layout: *const LayoutNumbers, host: u64, user: *mut [u64; 1]) -> u64;
         pub fn ondristela_tweak(layout: *const LayoutNumbers, user: u64, block: *mut [u8; 16]) -> u64;
@@ -82,6 +82,7 @@ pub fn write_header(
     host_size: u64,
     data_start: u64,
     data_size: u64,
+    sector_size: u64,
     salt: &[u8],
     keys: &[u8],
     header: &mut [u8],
@@ -95,6 +96,7 @@ pub fn write_header(
             host_size,
             data_start,
             data_size,
+            sector_size,
             salt.as_ptr(),
             salt.len(),
             keys.as_ptr(),

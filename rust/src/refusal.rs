@@ -44,21 +44,23 @@ pub enum Refusal {
     /// Flag bit 0 or 1 of the header is set, which tells of a system volume or one encrypted in place;
     /// neither is supported.
     Flags,
-    /// The header's sector_size is not 512, the only one that is supported.
+    /// The sector_size, in the header or for one to be written, is none of 512, 1,024, 2,048 and 4,096.
     SectorSize,
     /// The header's hidden_size does not fit its location code; it must be 0 for a standard volume, and
     /// for a hidden one equal to data_size and not 0.
     HiddenSize,
-    /// The header's data area does not fit the host; it must be one or more whole 512-byte sectors, with
-    /// encrypted_size equal to data_size, that start at 131,072 (for a hidden volume there or at a later
-    /// multiple of 512) and end at least 131,072 bytes before the host's end.
+    /// The header's data area does not fit the host; host_size, data_start and data_size must be
+    /// multiples of sector_size, data_size must equal encrypted_size and not be 0, and the data area must
+    /// start at 131,072 (for a hidden volume there or later) and end at least 131,072 bytes before the
+    /// host's end.
     DataArea,
-    /// The layout or view is unsound: its host_size is refused 3, its kind is neither standard nor
-    /// hidden, its data area does not fit the host as 10 has it, or its protected range is empty, not of
-    /// whole sectors, outside the data area or in a hidden volume; use one that an accepted call gave.
+    /// The layout or view is unsound: its host_size is refused 3, its sector_size 8, its kind is neither
+    /// standard nor hidden, its data area does not fit the host as 10 has it, or its protected range is
+    /// empty, not of whole 512-byte sectors, outside the data area or in a hidden volume; use one that an
+    /// accepted call gave.
     Unsound,
     /// The layouts do not nest; the first must be standard and the second hidden, with the same host_size
-    /// and its data area inside the first's.
+    /// and sector_size and its data area inside the first's.
     NotNested,
     /// The image is not host_size bytes long; pass the whole host.
     ImageSize,
@@ -85,6 +87,9 @@ pub enum Refusal {
     },
     /// The magic of the header to be written is neither VERA nor TRUE.
     Magic,
+    /// First or count is no multiple of sector_size / 512, how many sectors of 512 bytes make one of the
+    /// disk's own; widen the extent to whole ones.
+    Unaligned,
     // end of variants
 }
 
@@ -112,6 +117,7 @@ impl Refusal {
             Refusal::Locked => 17,
             Refusal::Protected { .. } => 18,
             Refusal::Magic => 19,
+            Refusal::Unaligned => 20,
         }
         // end of numbers
     }
@@ -141,6 +147,7 @@ impl Refusal {
             17 => Some(Refusal::Locked),
             18 => Some(Refusal::Protected { sector: sector? }),
             19 => Some(Refusal::Magic),
+            20 => Some(Refusal::Unaligned),
             _ => None,
         }
         // end of refusals
@@ -186,26 +193,29 @@ impl Refusal {
                 "flag bit 0 or 1 of the header is set, which tells of a system volume or one encrypted in \
                  place; neither is supported"
             }
-            Refusal::SectorSize => "the header's sector_size is not 512, the only one that is supported",
+            Refusal::SectorSize => {
+                "the sector_size, in the header or for one to be written, is none of 512, 1,024, 2,048 and \
+                 4,096"
+            }
             Refusal::HiddenSize => {
                 "the header's hidden_size does not fit its location code; it must be 0 for a standard \
                  volume, and for a hidden one equal to data_size and not 0"
             }
             Refusal::DataArea => {
-                "the header's data area does not fit the host; it must be one or more whole 512-byte \
-                 sectors, with encrypted_size equal to data_size, that start at 131,072 (for a hidden \
-                 volume there or at a later multiple of 512) and end at least 131,072 bytes before the \
-                 host's end"
+                "the header's data area does not fit the host; host_size, data_start and data_size must be \
+                 multiples of sector_size, data_size must equal encrypted_size and not be 0, and the data \
+                 area must start at 131,072 (for a hidden volume there or later) and end at least 131,072 \
+                 bytes before the host's end"
             }
             Refusal::Unsound => {
-                "the layout or view is unsound: its host_size is refused 3, its kind is neither standard \
-                 nor hidden, its data area does not fit the host as 10 has it, or its protected range is \
-                 empty, not of whole sectors, outside the data area or in a hidden volume; use one that an \
-                 accepted call gave"
+                "the layout or view is unsound: its host_size is refused 3, its sector_size 8, its kind is \
+                 neither standard nor hidden, its data area does not fit the host as 10 has it, or its \
+                 protected range is empty, not of whole 512-byte sectors, outside the data area or in a \
+                 hidden volume; use one that an accepted call gave"
             }
             Refusal::NotNested => {
                 "the layouts do not nest; the first must be standard and the second hidden, with the same \
-                 host_size and its data area inside the first's"
+                 host_size and sector_size and its data area inside the first's"
             }
             Refusal::ImageSize => "the image is not host_size bytes long; pass the whole host",
             Refusal::Count => "the count is above 128; split the extent over several calls",
@@ -223,6 +233,10 @@ impl Refusal {
                  was written, and the view now refuses every write"
             }
             Refusal::Magic => "the magic of the header to be written is neither VERA nor TRUE",
+            Refusal::Unaligned => {
+                "first or count is no multiple of sector_size / 512, how many sectors of 512 bytes make one \
+                 of the disk's own; widen the extent to whole ones"
+            }
         }
         // end of sentences
     }

@@ -19,44 +19,50 @@ pub struct View {
 impl View {
     /// A view of a volume alone.
     pub fn plain(layout: &Layout) -> Result<View, Refusal> {
-        let mut numbers = [0; 12];
+        let mut numbers = [0; 13];
         Refusal::check(raw::view_plain(&layout.numbers(), &mut numbers), None)?;
         Ok(View::made(layout, &numbers))
     }
 
     /// A view of an outer volume whose writes may not touch a hidden volume's data area.
     pub fn protected(outer: &Layout, hidden: &Layout) -> Result<View, Refusal> {
-        let mut numbers = [0; 12];
+        let mut numbers = [0; 13];
         Refusal::check(raw::view_protected(&outer.numbers(), &hidden.numbers(), &mut numbers), None)?;
         Ok(View::made(outer, &numbers))
     }
 
     fn made(layout: &Layout, numbers: &ViewNumbers) -> View {
-        let [protected, first, end, locked] = [numbers[8], numbers[9], numbers[10], numbers[11]];
+        let [.., protected, first, end, locked] = *numbers;
         View { layout: *layout, protected: (protected != 0).then_some(first..end), locked: locked != 0 }
     }
 
-    /// The view as the library's twelve numbers.
+    /// The view as the library's thirteen numbers.
     pub fn numbers(&self) -> ViewNumbers {
-        let mut numbers = [0; 12];
-        numbers[..8].copy_from_slice(&self.layout.numbers());
+        let mut numbers = [0; 13];
+        numbers[..9].copy_from_slice(&self.layout.numbers());
         if let Some(range) = &self.protected {
-            numbers[8..11].copy_from_slice(&[1, range.start, range.end]);
+            numbers[9..12].copy_from_slice(&[1, range.start, range.end]);
         }
-        numbers[11] = self.locked as u64;
+        numbers[12] = self.locked as u64;
         numbers
     }
 
     /// Fills the buffer with `count` sectors of the image, from user sector `first` on. The image is the
-    /// whole host, the buffer 512 bytes for each sector. A refusal leaves the buffer as it was.
+    /// whole host, the buffer 512 bytes for each sector.
+    ///
+    /// Refusals are `Unsound`, `ImageSize`, `Count`, `BufferSize`, `Unaligned` and `Outside`, tested in this order;
+    /// they leave the buffer as it was. `Unaligned` is for disks whose own sectors are larger than 512 bytes: see
+    /// [`Layout::alignment`].
     pub fn read(&self, image: &[u8], first: u64, count: u64, buffer: &mut [u8]) -> Result<(), Refusal> {
         let mut sector = [0];
         let answer = raw::read(&self.numbers(), image, first, count, buffer, &mut sector);
         Refusal::check(answer, Some(sector[0]))
     }
 
-    /// Copies the buffer into `count` sectors of the image, from user sector `first` on. A refusal leaves
-    /// the image as it was; `Refusal::Protected` locks the view.
+    /// Copies the buffer into `count` sectors of the image, from user sector `first` on.
+    ///
+    /// Refusals are those of [`read`](View::read), then `Locked` and `Protected`; they leave the image as it was, and
+    /// `Protected` locks the view.
     ///
     /// ```
     /// # use ondristela::{open, Location, Refusal, View};
@@ -75,12 +81,12 @@ impl View {
         let mut numbers = self.numbers();
         let mut sector = [0];
         let answer = raw::write(&mut numbers, image, first, count, buffer, &mut sector);
-        self.locked = numbers[11] != 0;
+        self.locked = numbers[12] != 0;
         Refusal::check(answer, Some(sector[0]))
     }
 
     /// Where a read takes its bytes, for an image that is not in memory: the extent's first byte in the host.
-    /// It is judged as the read of `count` sectors of an image and into a buffer of these sizes is.
+    /// Refusals are those of [`read`](View::read), for an image and a buffer of these sizes.
     pub fn read_extent(
         &self,
         image_size: u64,
@@ -97,7 +103,8 @@ impl View {
     }
 
     /// Where a write puts its bytes, for an image that is not in memory: the extent's first byte in the host.
-    /// It is judged as the write is; `Refusal::Protected` locks the view.
+    /// Refusals are those of [`write`](View::write), for an image and a buffer of these sizes; `Protected` locks
+    /// the view.
     pub fn write_extent(
         &mut self,
         image_size: u64,
@@ -109,7 +116,7 @@ impl View {
         let (mut offset, mut sector) = ([0], [0]);
         let answer =
             raw::write_extent(&mut numbers, image_size, first, count, buffer_size, &mut offset, &mut sector);
-        self.locked = numbers[11] != 0;
+        self.locked = numbers[12] != 0;
         Refusal::check(answer, Some(sector[0]))?;
         Ok(offset[0])
     }

@@ -1,4 +1,4 @@
--- A read or write on the view that twelve numbers tell, and where it finds its bytes, keep the contracts of the exported functions over
+-- A read or write on the view that numbers tell, and where it finds its bytes, keep the contracts of the exported functions over
 -- those numbers.
 -- Assumes nothing.
 use Prim.Native.Nat.{ℕ}

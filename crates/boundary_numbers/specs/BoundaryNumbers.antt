@@ -14,7 +14,7 @@ use Rattle.making.specs.declared.Viewed.the-variants as viewed
 
 -- how many numbers a layout has
 abbrev pub layoutSize : ℕ
-layoutSize = 8
+layoutSize = 9
 
 -- where a view has its lock
 abbrev pub lockIndex : ℕ
@@ -24,7 +24,7 @@ lockIndex = layoutSize + 3
 unfoldable pub layoutNumbers : Layout → List ℕ
 layoutNumbers layout =
     layout .«host_size» ∷ layout .kind ∷ layout .magic ∷ layout .version ∷ layout .«min_program_version» ∷ layout .«data_start»
-    ∷ layout .«data_size» ∷ layout .candidate ∷ []
+    ∷ layout .«data_size» ∷ layout .candidate ∷ layout .«sector_size» ∷ []
 
 -- the layout that the first numbers of a layout or a view tell; the arrays that are passed have a number at each index
 unfoldable pub layoutFrom : List ℕ → Layout
@@ -38,6 +38,7 @@ layoutFrom numbers =
       «data_start» = getD numbers 5 0;
       «data_size» = getD numbers 6 0;
       candidate = getD numbers 7 0;
+      «sector_size» = getD numbers 8 0;
     }
 
 -- what is protected, as three numbers: 0 for nothing, else 1, the range's first byte and the byte past its end

@@ -19,7 +19,7 @@ use protection::Protection;
 use view::View;
 
 // How many numbers a layout has, and a view: its layout's, the three of its protection, and the lock.
-pub const LAYOUT_SIZE: usize = 8;
+pub const LAYOUT_SIZE: usize = 9;
 
 pub const VIEW_SIZE: usize = LAYOUT_SIZE + 4;
 
@@ -33,14 +33,14 @@ const END: usize = LAYOUT_SIZE + 2;
 
 pub const LOCK: usize = LAYOUT_SIZE + 3;
 
-// The layout that eight numbers tell.
+// The layout that nine numbers tell.
 pub fn layout_from(numbers: &[u64; LAYOUT_SIZE]) -> Layout
     ensures { λ r. ⌜ r ≡ layoutFrom (now (numbers .entry)) ⌝ }
 {
     read_layout(numbers)
 }
 
-// The view that twelve numbers tell.
+// The view that thirteen numbers tell.
 pub fn view_from(numbers: &[u64; VIEW_SIZE]) -> View
     ensures { λ r. ⌜ r ≡ viewFrom (now (numbers .entry)) ⌝ }
 {
@@ -107,6 +107,7 @@ fn read_layout(numbers: &[u64]) -> Layout
         data_start: numbers[5],
         data_size: numbers[6],
         candidate: numbers[7],
+        sector_size: numbers[8],
     }
 }
 
@@ -123,6 +124,7 @@ fn store_layout(layout: Layout, numbers: &mut [u64])
     numbers[5] = layout.data_start;
     numbers[6] = layout.data_size;
     numbers[7] = layout.candidate;
+    numbers[8] = layout.sector_size;
 }
 
 fn store_view(view: View, numbers: &mut [u64; VIEW_SIZE])

@@ -2,7 +2,8 @@
 use Prim.Native.Nat.{ℕ, _*_}
 use mathlib.Core.{Path.{_≡_, refl, sym, ap, _∙_}, Bool.cond, List.List}
 use lib.{Dec.{leb, eqb}, ListN.length}
-use Rattle.judgement.specs.Judging.{checked, readAnswer, writeAnswer}
+use Rattle.judgement.specs.Judging.{alignmentRule, checked, readAnswer, writeAnswer}
+use Rattle.layout.specs.Rules.{multiple}
 use Rattle.access.specs.Moving.{filledBy, writtenBy}
 use Rattle.judgement.proofs.JudgingLaws.{Passed, read-passed, write-passed}
 use Rattle.answers.specs.{Answers.isAccepted, declared.Answer.{Answer, the-variants.{Accepted, Refused, RefusedAt}}}
@@ -10,7 +11,7 @@ use Rattle.sector_map.specs.SectorMap.{sectors}
 use Rattle.view.specs.{Outcomes.{viewRead, viewWrite, after}, declared.View.View}
 use Rattle.model.specs.Model.{bufferAfter, imageAfter}
 use Rattle.guarantees.specs.{Access.AccessesByTable, ReferenceModel.{isWrite, hostsOf, viewRules}}
-use Rattle.guarantees.specs.{SectorMap.Sound, Table.{check, later, tabled}}
+use Rattle.guarantees.specs.{SectorMap.Sound, Table.{isWhole, check, later, tabled}}
 use Rattle.guarantees.proofs.ExtentLaws.{gather-extent, lay-extent}
 use Rattle.guarantees.proofs.RangeLaws.{lock-range}
 use Rattle.guarantees.proofs.Reflects.{holds-true, is-true, is-false}
@@ -30,14 +31,15 @@ module _ (view : View) (image : List ℕ) (first count : ℕ) (buffer : List ℕ
   passed-sound : Passed (view .layout) (view .protection) (length image) first count (length buffer) → Sound (view .layout)
   passed-sound p = holds-true (view-reflects view) (p .soundness) .layoutSound
 
-  -- the checks of the lengths, and then the rest
+  -- the checks of the lengths and of whole sectors, and then the rest
   abbrev sizesChecked : Answer → Answer
   sizesChecked rest =
       check (Refused 13) (eqb (length image) (view .layout .«host_size»))
-      (check (Refused 14) (leb count 128) (check (Refused 15) (eqb (length buffer) (count * 512)) rest))
+      (check (Refused 14) (leb count 128)
+      (check (Refused 15) (eqb (length buffer) (count * 512)) (check (Refused 20) (alignmentRule (view .layout) first count) rest)))
 
   pub accesses-by-table : AccessesByTable view image first count buffer
-  unfolding readAnswer writeAnswer checked tabled later sectors after filledBy writtenBy viewRules isWrite hostsOf bufferAfter imageAfter
+  unfolding readAnswer writeAnswer checked alignmentRule multiple isWhole tabled later sectors after filledBy writtenBy viewRules isWrite hostsOf bufferAfter imageAfter
   accesses-by-table =
       let layout = view .layout in
       let reflects = view-reflects view in

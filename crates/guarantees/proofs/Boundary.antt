@@ -58,10 +58,10 @@ returns-zero =
       writes = λ view image first count buffer written outcome post. rw (post .answers) (write-zero view (length image) first count (length buffer));
     }
 
-pub orders-numbers : (host kind magic version program start size candidate protected first end lock : ℕ)
-    → OrdersNumbers host kind magic version program start size candidate protected first end lock
+pub orders-numbers : (host kind magic version program start size candidate sectors protected first end lock : ℕ)
+    → OrdersNumbers host kind magic version program start size candidate sectors protected first end lock
 unfolding layoutFrom viewFrom protectionFrom
-orders-numbers host kind magic version program start size candidate protected first end lock = record { layout = refl; view = refl }
+orders-numbers host kind magic version program start size candidate sectors protected first end lock = record { layout = refl; view = refl }
 
 protection-stored : (protection : Protection) → protectionNumbers protection ≡ storedProtection protection
 unfolding protectionNumbers
@@ -84,7 +84,7 @@ stores-answers before =
       view = λ view. rw (protection-stored (view .protection));
       viewBack = view-of-numbers;
       noView = λ number. refl;
-      closes = λ image first count buffer other written left sector h call. call .locks ∙ set-last before 11 1 h;
+      closes = λ image first count buffer other written left sector h call. call .locks ∙ set-last before 12 1 h;
       sameView = λ image first count buffer other written left sector number f call. call .locks ∙ rw (is-false (reflects-eqb number 18) f);
       offset = λ offset. refl;
       noOffset = λ number. refl;

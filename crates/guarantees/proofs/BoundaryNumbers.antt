@@ -10,7 +10,7 @@ use Rattle.answers.specs.{Answers.answerRefusal, declared.Answer.{Answer, the-v
 use Rattle.layout.specs.declared.Layout.{Layout}
 use Rattle.protection.specs.declared.Protection.{Protection, the-variants.{Unprotected, Protected}}
 use Rattle.view.specs.{declared.View.View, Outcomes.after}
-use Rattle.boundary_numbers.specs.BoundaryNumbers.{layoutNumbers, layoutFrom, protectionNumbers, protectionFrom, viewNumbers, viewFrom}
+use Rattle.boundary_numbers.specs.BoundaryNumbers.{lockIndex, layoutNumbers, layoutFrom, protectionNumbers, protectionFrom, viewNumbers, viewFrom}
 use Rattle.boundary_access.specs.BoundaryAccess.{viewLeft}
 
 -- a view of its three parts
@@ -32,20 +32,20 @@ view-of-numbers view = view-with-of-numbers (view .layout) (view .protection) (v
 getD-set-before : (l : List ℕ) (i j v d : ℕ) → ltb j i ≡ true → getD (set l i v) j d ≡ getD l j d
 getD-set-before l i j v d e = getD-set-other l i j v d (λ same. omega (arith, ltb-true j i e))
 
-module _ (numbers : List ℕ) (h : 11 < length numbers) where
+module _ (numbers : List ℕ) (h : lockIndex < length numbers) where
   -- with 1 for the last of a view's numbers they tell the same view, its lock closed
-  view-of-set : viewFrom (set numbers 11 1) ≡ viewWith (viewFrom numbers .layout) (viewFrom numbers .protection) true
+  view-of-set : viewFrom (set numbers lockIndex 1) ≡ viewWith (viewFrom numbers .layout) (viewFrom numbers .protection) true
   unfolding viewFrom layoutFrom
-  view-of-set = simp (getD-set-before numbers 11, getD-set-same numbers 11 1 0 h)
+  view-of-set = simp (getD-set-before numbers lockIndex, getD-set-same numbers lockIndex 1 0 h)
 
   -- .. and where nothing is stored, its lock as it was
-  view-of-cond-set : (closes : Bool) → viewFrom (cond closes (set numbers 11 1) numbers)
+  view-of-cond-set : (closes : Bool) → viewFrom (cond closes (set numbers lockIndex 1) numbers)
       ≡ viewWith (viewFrom numbers .layout) (viewFrom numbers .protection) (cond closes true (viewFrom numbers .locked))
   view-of-cond-set true = view-of-set
   view-of-cond-set false = refl
 
 -- the numbers that a write leaves tell the view that it hands back
-pub view-of-left : (answer : Answer) (numbers : List ℕ) → length numbers ≡ 12
+pub view-of-left : (answer : Answer) (numbers : List ℕ) → length numbers ≡ 13
     → viewFrom (viewLeft (answerRefusal answer) numbers) ≡ after (viewFrom numbers) answer
 unfolding viewLeft after lockedAfter
 view-of-left answer numbers h = view-of-cond-set numbers (omega arith) (eqb (answerRefusal answer) 18)

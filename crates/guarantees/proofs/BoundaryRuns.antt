@@ -8,13 +8,13 @@ use Rattle.layout.specs.declared.Layout.{Layout}
 use Rattle.view.specs.{Outcomes.{viewRead, viewWrite}, declared.View.View}
 use Rattle.making.specs.declared.Viewed.the-variants.{Made}
 use Rattle.protection.specs.declared.Protection.{Protection, the-variants.{Unprotected, Protected}}
-use Rattle.boundary_numbers.specs.BoundaryNumbers.{viewFrom, viewedLeft}
+use Rattle.boundary_numbers.specs.BoundaryNumbers.{lockIndex, viewFrom, viewedLeft}
 use Rattle.boundary_access.specs.BoundaryAccess.{viewLeft, sectorLeft, Tells}
 use Rattle.model.specs.{Model.{State, stateWith, Reply}, Sides.{Side, outer, hidden, at, eachWith, OnSide}}
 use Rattle.model.proofs.RunLaws.{run-exists, run-carries}
 use Rattle.model.proofs.SideLaws.{on-side-exists, on-side-carries}
 use Rattle.guarantees.specs.Boundary.{storedLayout, storedProtection}
-use Rattle.guarantees.specs.BoundaryRuns.{Numbers, Twelve, told, Said, answerSaid, replyTold, storedFor, KeepsNumberContract, NumberStep, CarriesRuns, BeginsRuns}
+use Rattle.guarantees.specs.BoundaryRuns.{Numbers, Thirteen, told, Said, answerSaid, replyTold, storedFor, KeepsNumberContract, NumberStep, CarriesRuns, BeginsRuns}
 use Rattle.guarantees.specs.Interleaving.{KeepsContract, Step, sideView}
 use Rattle.guarantees.specs.{Table.{Operation, reads, writes, Call}, Views.{plain, protecting}}
 use Rattle.guarantees.proofs.Boundary.{stores-answers}
@@ -25,8 +25,8 @@ length-left : (number : ℕ) (before : List ℕ) → length (viewLeft number bef
 unfolding viewLeft
 length-left number before = go (eqb number 18)
   where
-    go : (b : Bool) → length (cond b (set before 11 1) before) ≡ length before
-    go true = length-set before 11 1
+    go : (b : Bool) → length (cond b (set before lockIndex 1) before) ≡ length before
+    go true = length-set before lockIndex 1
     go false = refl
 
 -- an answer is told by its number and the sector that it leaves, whatever was there
@@ -61,10 +61,10 @@ told-back {before = before} tells told = ap answerSaid (λ i. record { number = 
 
 -- one view's numbers
 step-is : (state after : State (List ℕ)) (operation : Operation) (first count : ℕ) (buffer before : List ℕ) (given : Reply Said)
-    → length (state .held) ≡ 12 → KeepsNumberContract operation state first count buffer before given after
-    → KeepsContract operation (stateWith viewFrom state) first count buffer (replyTold given) (stateWith viewFrom after) × (length (after .held) ≡ 12)
+    → length (state .held) ≡ 13 → KeepsNumberContract operation state first count buffer before given after
+    → KeepsContract operation (stateWith viewFrom state) first count buffer (replyTold given) (stateWith viewFrom after) × (length (after .held) ≡ 13)
 unfolding KeepsNumberContract KeepsContract stateWith replyTold
-step-is state after reads first count buffer before given twelve kept = (
+step-is state after reads first count buffer before given thirteen kept = (
   (
     record {
       same = ap (λ (s : State (List ℕ)). viewFrom (s .held)) (kept .1);
@@ -73,21 +73,21 @@ step-is state after reads first count buffer before given twelve kept = (
     },
     ap (λ (s : State (List ℕ)). s .image) (kept .1),
   ),
-  ap (λ (s : State (List ℕ)). length (s .held)) (kept .1) ∙ twelve,
+  ap (λ (s : State (List ℕ)). length (s .held)) (kept .1) ∙ thirteen,
 )
-step-is state after writes first count buffer before given twelve kept =
+step-is state after writes first count buffer before given thirteen kept =
     let answer = viewWrite (viewFrom (state .held)) (length (state .image)) first count (length buffer) in
     let left : after .held ≡ viewLeft (answerRefusal answer) (state .held) =
     kept .0 .locks ∙ ap (λ (n : ℕ). viewLeft n (state .held)) (kept .0 .tells .returns) in (
       (
         record {
-          back = ap viewFrom left ∙ view-of-left answer (state .held) twelve;
+          back = ap viewFrom left ∙ view-of-left answer (state .held) thirteen;
           answers = told-back (kept .0 .tells) (write-told (viewFrom (state .held)) (length (state .image)) first count (length buffer));
           writes = kept .0 .writes;
         },
         kept .1,
       ),
-      ap length left ∙ length-left (answerRefusal answer) (state .held) ∙ twelve,
+      ap length left ∙ length-left (answerRefusal answer) (state .held) ∙ thirteen,
     )
 
 answered : (state : State (List ℕ)) (call : Call) (before : List ℕ)
@@ -117,30 +117,30 @@ carries-runs numbers =
     record {
       answered = answered;
       runs = run-exists (OnSide NumberStep) (on-side-exists NumberStep step-exists) numbers;
-      isRun = λ twelve turns answers last run.
-          run-carries (OnSide NumberStep) (OnSide Step) told replyTold Twelve
+      isRun = λ thirteen turns answers last run.
+          run-carries (OnSide NumberStep) (OnSide Step) told replyTold Thirteen
           (λ state after turn given holds one.
-          on-side-carries NumberStep Step viewFrom replyTold (λ (held : List ℕ). length held ≡ 12)
+          on-side-carries NumberStep Step viewFrom replyTold (λ (held : List ℕ). length held ≡ 13)
           (λ s a call g h kept. step-is s a (call .operation) (call .first) (call .count) (call .buffer) (kept .0) g h (kept .1)) state after turn given holds one)
-          twelve run;
+          thirteen run;
     }
 
 -- the numbers stored for a view that is made
-stored-twelve : (view : View) (before : List ℕ) → length (viewedLeft (Made view) before) ≡ 12
-stored-twelve view before = ap length (stores-answers before .view view) ∙ go (view .protection)
+stored-thirteen : (view : View) (before : List ℕ) → length (viewedLeft (Made view) before) ≡ 13
+stored-thirteen view before = ap length (stores-answers before .view view) ∙ go (view .protection)
   where
-    go : (protection : Protection) → length (storedLayout (view .layout) ++ storedProtection protection ++ cond (view .locked) 1 0 ∷ []) ≡ 12
+    go : (protection : Protection) → length (storedLayout (view .layout) ++ storedProtection protection ++ cond (view .locked) 1 0 ∷ []) ≡ 13
     go Unprotected = refl
     go (Protected first end) = refl
 
 module _ (outerLayout hiddenLayout : Layout) (before other : List ℕ) where
-  both-twelve : (side : Side) → length (at side (record {
+  both-thirteen : (side : Side) → length (at side (record {
     outerOne = viewedLeft (Made (protecting outerLayout hiddenLayout false)) before;
     hiddenOne = viewedLeft (Made (plain hiddenLayout false)) other;
-  })) ≡ 12
+  })) ≡ 13
   unfolding at
-  both-twelve outer = stored-twelve (protecting outerLayout hiddenLayout false) before
-  both-twelve hidden = stored-twelve (plain hiddenLayout false) other
+  both-thirteen outer = stored-thirteen (protecting outerLayout hiddenLayout false) before
+  both-thirteen hidden = stored-thirteen (plain hiddenLayout false) other
 
 pub begins-runs : (outerLayout hiddenLayout : Layout) → BeginsRuns outerLayout hiddenLayout
 unfolding storedFor stateWith eachWith sideView
@@ -158,5 +158,5 @@ begins-runs outerLayout hiddenLayout =
                   hiddenOne = stores-answers other .viewBack (plain hiddenLayout false) i;
                 };
           };
-      twelve = λ s t n before other image. rw (made .guardedMade s t n, alone .plainMade t) (both-twelve outerLayout hiddenLayout before other);
+      thirteen = λ s t n before other image. rw (made .guardedMade s t n, alone .plainMade t) (both-thirteen outerLayout hiddenLayout before other);
     }

@@ -22,7 +22,7 @@ use Rattle.header_writing.specs.{HeaderWriting.writtenRefusal, declared.Written
 use Rattle.header_writing.specs.declared.Written.the-variants as writing
 use Rattle.header_writing.proofs.AnswerLaws.{refused-done}
 use Rattle.guarantees.specs.{Boundary.ZeroAccepts, Header.number, Opening.{Lengths, Codes, HostSize}, Writing.{Request, answerTo, Check, refusalOf}}
-use Rattle.guarantees.specs.Writing.{rightLengths, knownMagic, knownCode, allowedHost, supportedVersion, allowedArea}
+use Rattle.guarantees.specs.Writing.{rightLengths, knownMagic, knownCode, allowedHost, supportedVersion, allowedSectors, allowedArea}
 use Rattle.guarantees.proofs.Reflects.{Reflects, holds, fails}
 use Rattle.guarantees.proofs.RuleReflections.{lengths-reflects, codes-reflects, host-size-reflects}
 use Rattle.guarantees.proofs.JudgementLaws.{number-bounds}
@@ -112,6 +112,7 @@ refused-writes knownMagic = (λ e. absurd (omega arith), refused-done 19)
 refused-writes knownCode = (λ e. absurd (omega arith), refused-done 2)
 refused-writes allowedHost = (λ e. absurd (omega arith), refused-done 3)
 refused-writes supportedVersion = (λ e. absurd (omega arith), refused-done 5)
+refused-writes allowedSectors = (λ e. absurd (omega arith), refused-done 8)
 refused-writes allowedArea = (λ e. absurd (omega arith), refused-done 10)
 
 pub header-zero : (request : Request) (before : List ℕ) → ZeroWrites (answerTo request before)

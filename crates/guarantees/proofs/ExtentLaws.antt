@@ -14,7 +14,7 @@ use Rattle.model.specs.Sectors.{sectorAt, setSector, lay, gather}
 use Rattle.guarantees.specs.{Table.covers, SectorMap.Sound}
 use Rattle.guarantees.proofs.CoversLaws.{consecutive, covers-consecutive}
 use Rattle.guarantees.proofs.Reflects.{is-true}
-use Rattle.guarantees.proofs.SoundLaws.{sound-reflects}
+use Rattle.guarantees.proofs.SoundLaws.{sound-reflects, sound-on-sectors}
 
 set-sector-overlay : (host : ℕ) (bytes image : List ℕ) → length bytes ≡ 512 → setSector host bytes image ≡ overlay (host * 512) bytes image
 unfolding setSector overlay
@@ -55,7 +55,7 @@ module _ (layout : Layout) (s : Sound layout) (first count : ℕ) (inside : firs
 
   extent-start : (firstSector layout + first) * 512 ≡ extentStart layout first
   unfolding firstSector extentStart
-  extent-start = omega arith
+  extent-start = omega (arith, sound-on-sectors layout s)
 
   pub gather-extent : (image : List ℕ)
       → gather (λ host. sectorAt host image) (covers layout first count) ≡ take (count * 512) (drop (extentStart layout first) image)
@@ -65,4 +65,4 @@ module _ (layout : Layout) (s : Sound layout) (first count : ℕ) (inside : firs
       → lay asGiven (covers layout first count) buffer image ≡ overlay (extentStart layout first) buffer image
   unfolding sectors firstSector
   lay-extent buffer image size whole =
-      rw (covers-extent, ← extent-start) (lay-consecutive (firstSector layout + first) count buffer image size (omega arith))
+      rw (covers-extent, ← extent-start) (lay-consecutive (firstSector layout + first) count buffer image size (omega (arith, sound-on-sectors layout s)))

@@ -46,6 +46,7 @@ from-headers outerHeader hiddenHeader outerCode hiddenCode hostSize =
             firstStandard = outer .kindTold ∙ nest .firstStandard;
             secondHidden = hidden .kindTold ∙ nest .secondHidden;
             sameHost = outer .hostSizeTold ∙ sym (hidden .hostSizeTold);
+            sameSectors = outer .sectorSizeTold ∙ nest .sameSectors ∙ sym (hidden .sectorSizeTold);
             starts = omega (arith, outer .startTold, hidden .startTold, nest .starts);
             ends = omega (arith, outer .startTold, hidden .startTold, outer .sizeTold, hidden .sizeTold, nest .ends);
           } in

@@ -6,13 +6,13 @@ use native.Mathlib.Omega.{arith}
 use mathlib.Core.{Path.{_≡_, refl, sym, _∙_, ap, subst}, Bool.{Bool, cond}, List.{List, [], _∷_}}
 use lib.ListN.{length, getD}
 use Rattle.layout.specs.declared.Opened.{Opened, the-variants.{Accepted, Refused}}
-use Rattle.header.specs.Header.{judge}
-use Rattle.guarantees.specs.Header.{KnownKind, IsHeader, Line, version, reserved, flags, sectorSize, hiddenSize, dataArea, number, Keeps, FirstBroken}
+use Rattle.header.specs.Header.{fieldsOf, judge}
+use Rattle.guarantees.specs.Header.{SectorSize, KnownKind, IsHeader, Line, version, reserved, flags, sectorSize, hiddenSize, dataArea, number, Keeps, FirstBroken}
 use Rattle.guarantees.proofs.Reflects.{Reflects, holds, fails, below-suc}
 use Rattle.guarantees.proofs.HeaderLaws.{magic-of-says, is-header-reflects}
 use Rattle.guarantees.proofs.ToldLaws.{Told}
 use Rattle.guarantees.proofs.LineLaws.{version-reflects, reserved-reflects, flags-reflects}
-use Rattle.guarantees.proofs.LineLaws.{sector-size-reflects, hidden-size-reflects, data-area-reflects}
+use Rattle.guarantees.proofs.LineLaws.{sectors-reflect, hidden-size-reflects, data-area-reflects}
 
 -- the line of a number
 abbrev lineOf : ℕ → Line
@@ -67,6 +67,11 @@ module _ (kind hostSize index : ℕ) (h : List ℕ) where
   unfolding Keeps
   known-kind keeps = keeps .0
 
+  -- .. and that of the sectors a known size of them
+  known-sectors : Keeps sectorSize kind hostSize h → SectorSize (fieldsOf h .«sector_size»)
+  unfolding Keeps fieldsOf
+  known-sectors keeps = keeps
+
   pub judge-says : length h ≡ 512 → Judgement (judge kind hostSize index h)
   unfolding judge number
   judge-says size =
@@ -74,7 +79,7 @@ module _ (kind hostSize index : ℕ) (h : List ℕ) where
       line-says r version (version-reflects kind hostSize h (r .magic) (magic-of-says h)) (λ n lt line e. absurd (omega (arith, number-bounds line))) λ to5.
       line-says r reserved (reserved-reflects kind hostSize h (r .magic) (magic-of-says h)) to5 λ to6.
       line-says r flags (flags-reflects kind hostSize h) to6 λ to7.
-      line-says r sectorSize (sector-size-reflects kind hostSize h) to7 λ to8.
+      line-says r sectorSize (sectors-reflect kind hostSize h) to7 λ to8.
       line-says r hiddenSize (hidden-size-reflects kind hostSize h) to8 λ to9.
-      line-says r dataArea (data-area-reflects kind hostSize index h (known-kind (to9 9 (omega arith) hiddenSize refl))) to9 λ to10.
+      line-says r dataArea (data-area-reflects kind hostSize index h (known-kind (to9 9 (omega arith) hiddenSize refl)) (known-sectors (to9 8 (omega arith) sectorSize refl))) to9 λ to10.
       accepts r (λ line. to10 (number line) (omega (arith, number-bounds line)) line refl)

@@ -11,7 +11,7 @@ use Rattle.opening.specs.Opening.{keysOffset, keysSize}
 use Rattle.guarantees.specs.Header.{veraLetters, trueLetters, IsHeader, Line, number, Keeps, FirstBroken, Tells}
 use Rattle.guarantees.specs.Judging.{KeepsRules, JudgesExactly, GivesKeys}
 use Rattle.guarantees.proofs.Reflects.{Reflects, holds, fails, is-false, true-exactly, reflects-map, reflects-and, reflects-eqb, reflects-leb}
-use Rattle.guarantees.proofs.RuleReflections.{host-size-reflects}
+use Rattle.guarantees.proofs.RuleReflections.{multiple-reflects, sector-size-reflects, host-size-reflects}
 use Rattle.guarantees.proofs.SoundLaws.{sound-reflects, data-area-rule-reflects}
 use Rattle.guarantees.proofs.HeaderLaws.{MagicIs, spellsVera, spellsTrue, spellsNeither, magic-number-says, is-header-reflects}
 use Rattle.guarantees.proofs.LineLaws.{four-or-five}
@@ -57,7 +57,9 @@ keeps-rules =
       otherMagics = λ bytes f. neither-told (magic-number-says bytes) f;
       veraVersions = vera-versions;
       trueVersions = true-versions;
+      multiples = λ count of. true-exactly (multiple-reflects count of);
       hostSizes = λ hostSize. true-exactly (host-size-reflects hostSize);
+      sectorSizes = λ size. true-exactly (sector-size-reflects size);
       dataAreas = λ layout. true-exactly (data-area-rule-reflects layout);
       layouts = λ layout. true-exactly (sound-reflects layout);
     }

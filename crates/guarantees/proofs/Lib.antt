@@ -30,6 +30,7 @@ pub mod RangeLaws
 pub mod ReadsBack
 pub mod Reflects
 pub mod RuleReflections
+pub mod SameAt512
 pub mod SectorMap
 pub mod SoundLaws
 pub mod StepLaws

@@ -4,15 +4,16 @@ use Prim.Native.Nat.{ℕ, _+_, _/_, _%_, _≤_}
 use native.Mathlib.Omega.{arith}
 use mathlib.Core.{Path._≡_, Logic.{_⊎_, inl, inr, ⊎-elim}, Bool.{Bool, true, _&&_, cond, and-assoc}, List.List}
 use lib.Dec.{eqb}
-use Rattle.layout.specs.{Rules.{standard, hidden, placeRule, sectorsRule, dataAreaRule}, declared.Layout.Layout}
+use Rattle.layout.specs.{Rules.{standard, hidden, sectorSizeRule, placeRule, sectorsRule, dataAreaRule}, declared.Layout.Layout}
 use Rattle.fields.specs.Bytes.{part, allZero}
 use Rattle.header.specs.Header.{fieldsOf, acceptedLayout}
-use Rattle.header.specs.Header.{versionRule, reservedRule, flagsRule, sectorSizeRule, hiddenSizeRule, areaRule}
-use Rattle.guarantees.specs.Header.{bytesAt, veraLetters, trueLetters, IsVera, IsTrue, Supported, KnownKind}
+use Rattle.header.specs.Header.{versionRule, reservedRule, flagsRule, hiddenSizeRule, areaRule}
+use Rattle.guarantees.specs.Header.{bytesAt, veraLetters, trueLetters, IsVera, IsTrue, Supported, SectorSize, KnownKind}
 use Rattle.guarantees.specs.Header.{version, reserved, flags, sectorSize, hiddenSize, dataArea, DataArea, Keeps}
 use Rattle.guarantees.specs.Numbers.{AllZero}
 use Rattle.guarantees.proofs.Reflects.{Reflects, holds, fails, reflects-map, reflects-and, reflects-not, reflects-eqb, reflects-leb}
 use Rattle.guarantees.proofs.HeaderLaws.{MagicIs, spellsVera, spellsTrue, spellsNeither, all-zero-reflects}
+use Rattle.guarantees.proofs.RuleReflections.{multiple-reflects, sector-size-reflects}
 use Rattle.guarantees.proofs.ToldLaws.{Told, layout-tells, tells-area}
 
 -- a test by the kind, which no other kind passes
@@ -67,9 +68,9 @@ module _ (kind hostSize : ℕ) (h : List ℕ) where
   unfolding fieldsOf Keeps flagsRule
   flags-reflects = reflects-eqb (fieldsOf h .flags % 4) 0
 
-  pub sector-size-reflects : Reflects (Keeps sectorSize kind hostSize h) (sectorSizeRule (fieldsOf h .«sector_size»))
-  unfolding fieldsOf Keeps sectorSizeRule
-  sector-size-reflects = reflects-eqb (fieldsOf h .«sector_size») 512
+  pub sectors-reflect : Reflects (Keeps sectorSize kind hostSize h) (sectorSizeRule (fieldsOf h .«sector_size»))
+  unfolding fieldsOf Keeps
+  sectors-reflect = sector-size-reflects (fieldsOf h .«sector_size»)
 
   pub hidden-size-reflects : Reflects (Keeps hiddenSize kind hostSize h) (hiddenSizeRule kind (fieldsOf h .«hidden_size») (fieldsOf h .«data_size»))
   unfolding fieldsOf Keeps hiddenSizeRule
@@ -77,41 +78,48 @@ module _ (kind hostSize : ℕ) (h : List ℕ) where
       let zero = reflects-eqb (fieldsOf h .«hidden_size») 0 in
       rw and-assoc (kind-reflects kind zero (reflects-and (reflects-not zero) (reflects-eqb (fieldsOf h .«hidden_size») (fieldsOf h .«data_size»))))
 
--- the last line, of a layout: no other kind passes it
+-- the last line, of a layout: no other kind passes it, and no other sector size
 pub area-reflects : (layout : Layout) (encryptedSize : ℕ)
-    → Reflects (KnownKind (layout .kind) × DataArea layout encryptedSize) (areaRule layout encryptedSize)
+    → Reflects (KnownKind (layout .kind) × SectorSize (layout .«sector_size») × DataArea layout encryptedSize) (areaRule layout encryptedSize)
 unfolding areaRule dataAreaRule sectorsRule placeRule
 area-reflects layout encryptedSize =
     let start = layout .«data_start» in
     let size = layout .«data_size» in
+    let sectors = layout .«sector_size» in
     let ends = reflects-leb (start + size + 131072) (layout .«host_size») in
     reflects-map
     (λ p.
     let place = p .1 .1 in (
       place .0,
+      p .1 .0 .0 .0 .0 .0,
       record {
         encrypted = p .0;
-        atLeast = p .1 .0 .0 .0;
-        sizeMultiple = p .1 .0 .0 .1;
-        startMultiple = p .1 .0 .1;
+        atLeast = p .1 .0 .0 .0 .0 .1;
+        sizeMultiple = p .1 .0 .0 .0 .1;
+        startMultiple = p .1 .0 .0 .1;
+        hostMultiple = p .1 .0 .1;
         standardStart = λ e. place .1 .0 e .0;
         hiddenStart = λ e. place .1 .1 e .0;
         fits = ⊎-elim (λ e. place .1 .0 e .1) (λ e. place .1 .1 e .1) (place .0);
       },
     ))
     (λ q.
-    let r = q .1 in (
+    let r = q .2 in (
       r .encrypted,
-      (((r .atLeast, r .sizeMultiple), r .startMultiple), (q .0, (λ e. (r .standardStart e, r .fits), λ e. (r .hiddenStart e, r .fits)))),
+      (((((q .1, r .atLeast), r .sizeMultiple), r .startMultiple), r .hostMultiple), (q .0, (λ e. (r .standardStart e, r .fits), λ e. (r .hiddenStart e, r .fits)))),
     ))
     (reflects-and (reflects-eqb encryptedSize size)
-    (reflects-and (reflects-and (reflects-and (reflects-leb 512 size) (reflects-eqb (size % 512) 0)) (reflects-eqb (start % 512) 0))
+    (reflects-and
+    (reflects-and
+    (reflects-and (reflects-and (reflects-and (sector-size-reflects sectors) (reflects-leb 512 size)) (multiple-reflects size sectors))
+    (multiple-reflects start sectors))
+    (multiple-reflects (layout .«host_size») sectors))
     (kind-reflects (layout .kind) (reflects-and (reflects-eqb start 131072) ends) (reflects-and (reflects-leb 131072 start) ends))))
 
-pub data-area-reflects : (kind hostSize index : ℕ) (h : List ℕ) → KnownKind kind
+pub data-area-reflects : (kind hostSize index : ℕ) (h : List ℕ) → KnownKind kind → SectorSize (fieldsOf h .«sector_size»)
     → Reflects (Keeps dataArea kind hostSize h) (areaRule (Told kind hostSize index h) (fieldsOf h .«encrypted_size»))
 unfolding fieldsOf acceptedLayout Keeps
-data-area-reflects kind hostSize index h known =
+data-area-reflects kind hostSize index h known sectors =
     let told = layout-tells kind hostSize index h in
-    reflects-map (λ p other layout tells. tells-area told tells (p .1)) (λ keeps. (known, keeps index (Told kind hostSize index h) told))
+    reflects-map (λ p other layout tells. tells-area told tells (p .2)) (λ keeps. (known, sectors, keeps index (Told kind hostSize index h) told))
     (area-reflects (Told kind hostSize index h) (fieldsOf h .«encrypted_size»))

@@ -9,7 +9,7 @@ use Rattle.sector_map.specs.SectorMap.{sectors, firstSector, hostSector, userSe
 use Rattle.answers.specs.declared.Numbered.{Numbered, the-variants.{Number, Refused}}
 use Rattle.guarantees.specs.SectorMap.{Sound, InArea, Outside, OutsideHeaders}
 use Rattle.guarantees.proofs.Reflects.{Reflects, holds, fails, is-true, reflects-map, reflects-and, reflects-leb}
-use Rattle.guarantees.proofs.SoundLaws.{sound-reflects, sound-start}
+use Rattle.guarantees.proofs.SoundLaws.{sound-reflects, sound-on-sectors, sound-start}
 
 -- an answer is a number where P holds, and else 16
 pub data Answers (P : Type 0) (n : ℕ) : Numbered → Type 0 where
@@ -36,6 +36,7 @@ module _ (layout : Layout) (s : Sound layout) where
   in-area-reflects : (host : ℕ) → Reflects (InArea layout host) (leb (firstSector layout) host && ltb host (firstSector layout + sectors layout))
   unfolding firstSector sectors
   in-area-reflects host =
+      let on = sound-on-sectors layout s in
       reflects-map (λ p. record { starts = omega arith; ends = omega arith }) (λ i. (omega arith, omega arith))
       (reflects-and (reflects-leb (firstSector layout) host) (reflects-leb (suc host) (firstSector layout + sectors layout)))
 
@@ -49,7 +50,10 @@ module _ (layout : Layout) (s : Sound layout) where
   user-sector-answers host = rw (is-true (sound-reflects layout) s) (answers-cond (host - firstSector layout) (in-area-reflects host))
 
   pub host-sector-in-area : (user host : ℕ) → hostSector layout user ≡ Number host → InArea layout host
-  host-sector-in-area user host e = let h = number-says (host-sector-answers user) e in record { starts = omega arith; ends = omega arith }
+  host-sector-in-area user host e =
+      let on = sound-on-sectors layout s in
+      let h = number-says (host-sector-answers user) e in
+      record { starts = omega arith; ends = omega arith }
 
   pub in-area-outside : (host : ℕ) → InArea layout host → OutsideHeaders (layout .«host_size») host
   unfolding Outside

@@ -1,18 +1,21 @@
 -- What views, reads and writes are made of keeps its rules. Assumes nothing.
-use Prim.Native.Nat.{ℕ, suc, _+_, _*_}
+use Prim.Native.Nat.{ℕ, suc, _+_, _*_, _/_}
 use native.Mathlib.Omega.{arith}
 use mathlib.Core.Path.{refl, sym}
 use Rattle.answers.specs.Answers.{isAccepted}
 use Rattle.copy.proofs.CopyLaws.{copied-fits, copied-none}
+use Rattle.judgement.specs.Judging.{alignmentRule}
 use Rattle.judgement.specs.Offsets.{extentStart, placedBy}
-use Rattle.layout.specs.declared.Layout.{Layout}
+use Rattle.layout.specs.{Rules.multiple, declared.Layout.Layout}
+use Rattle.layout.proofs.SectorSizeLaws.{multiple-in-sectors}
 use Rattle.protection.specs.{Protection.{soundProtection, protectedExtent, paired}, declared.Protection.Protection}
-use Rattle.guarantees.specs.{Parts.KeepsParts, ReferenceModel.inRange, SectorMap.{Sound, InArea}, Views.area}
+use Rattle.guarantees.specs.{Header.Multiple, Parts.KeepsParts, ReferenceModel.inRange, SectorMap.{Sound, InArea}, Views.area}
 use Rattle.guarantees.proofs.Extents.{within, inside}
 use Rattle.guarantees.proofs.NestLaws.{nests-reflects}
 use Rattle.guarantees.proofs.RangeLaws.{sector-reflects}
 use Rattle.guarantees.proofs.Reflects.{Reflects, is-true, is-false, holds-true, true-exactly, reflects-map, reflects-and, reflects-leb}
-use Rattle.guarantees.proofs.SoundLaws.{sound-reflects}
+use Rattle.guarantees.proofs.RuleReflections.{multiple-reflects, sector-size-reflects}
+use Rattle.guarantees.proofs.SoundLaws.{sound-reflects, sound-on-sectors}
 use Rattle.guarantees.proofs.TableLaws.{lock-left}
 use Rattle.guarantees.proofs.ViewLaws.{range-reflects}
 
@@ -20,11 +23,22 @@ use Rattle.guarantees.proofs.ViewLaws.{range-reflects}
 area-reflects : (layout : Layout) (s : Sound layout) (host : ℕ) → Reflects (InArea layout host) (inRange (area layout) host)
 unfolding inRange
 area-reflects layout s host =
-    let a = s .area in
     reflects-map
-    (λ p. record { starts = p .0; ends = omega (arith, p .1, a .startMultiple, a .sizeMultiple) })
+    (λ p. record { starts = p .0; ends = omega (arith, p .1, sound-on-sectors layout s) })
     (λ i. (i .starts, omega (arith, i .ends)))
     (reflects-and (reflects-leb (layout .«data_start») (host * 512)) (reflects-leb (suc (host * 512)) (layout .«data_start» + layout .«data_size»)))
+
+-- a count of sectors is a multiple of Z/512 exactly where its bytes are one of Z
+bytes-reflect : (layout : Layout) (s : Sound layout) (number : ℕ)
+    → Reflects (Multiple (number * 512) (layout .«sector_size»)) (multiple number (layout .«sector_size» / 512))
+bytes-reflect layout s number =
+    rw (multiple-in-sectors number (layout .«sector_size») (is-true (sector-size-reflects (layout .«sector_size»)) (s .sectors)))
+    (multiple-reflects (number * 512) (layout .«sector_size»))
+
+aligned-reflects : (layout : Layout) (s : Sound layout) (first count : ℕ)
+    → Reflects (Multiple (first * 512) (layout .«sector_size») × Multiple (count * 512) (layout .«sector_size»)) (alignmentRule layout first count)
+unfolding alignmentRule
+aligned-reflects layout s first count = reflects-and (bytes-reflect layout s first) (bytes-reflect layout s count)
 
 pub keeps-parts : (layout hiddenLayout : Layout) (protection : Protection) → KeepsParts layout hiddenLayout protection
 unfolding soundProtection paired isAccepted extentStart placedBy
@@ -43,6 +57,7 @@ keeps-parts layout hiddenLayout protection =
       pairNests = λ s t n. simp (is-true first s, is-true second t, is-true (nests-reflects layout hiddenLayout) n);
       pairUnsound = λ f. simp (is-false (reflects-and first second) f);
       pairApart = λ s t f. simp (is-true first s, is-true second t, is-false (nests-reflects layout hiddenLayout) f);
+      aligned = λ s first count. true-exactly (aligned-reflects layout s first count);
       locks = λ locked answer. sym (lock-left answer locked);
       starts = λ start. refl;
       noStart = λ start number. refl;

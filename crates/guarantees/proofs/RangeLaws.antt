@@ -16,6 +16,7 @@ use Rattle.guarantees.specs.{ReferenceModel.{inRange, isProtected, first
 use Rattle.guarantees.specs.{Table.{writes, firstOf, check, unlessAt, later, withHost, covers}, Views.SoundRange}
 use Rattle.guarantees.proofs.MapLaws.{number-says, is-number, host-sector-answers}
 use Rattle.guarantees.proofs.Reflects.{Reflects, fails, holds-true, reflects-map, reflects-and, reflects-leb}
+use Rattle.guarantees.proofs.SoundLaws.{sound-on-sectors}
 use Rattle.guarantees.proofs.WalkLaws.{refutes, Walked, noneFound, foundAt, first-of-walked}
 
 isNamed : Naming → Bool
@@ -53,7 +54,7 @@ sector-reflects layout (Protected first end) s r user host e =
     let o = layout .«data_start» / 512 in
     let start = (first - layout .«data_start») / 512 in
     let count = (end - first) / 512 in
-    let starts : first ≡ (o + start) * 512 = omega (arith, s .area .startMultiple, r .firstMultiple, r .starts) in
+    let starts : first ≡ (o + start) * 512 = omega (arith, sound-on-sectors layout s, r .firstMultiple, r .starts) in
     let ends : end ≡ (o + start + count) * 512 = omega (arith, starts, r .firstMultiple, r .endMultiple, r .notEmpty) in
     reflects-map (λ p. record { starts = omega (arith, p .0, starts, told); ends = omega (arith, p .1, ends, told) })
     (λ w. (omega (arith, w .starts, starts, told), omega (arith, w .ends, ends, told)))

@@ -39,7 +39,7 @@ module _ (r : Request) (before : List ℕ) (done : answerTo r before ≡ Done) w
       let known = leb-true (asked r .magic) 1 (passed .knownMagic) in
       ap (λ (h : List ℕ). opened h (r .code ∷ []) (r .hostSize)) left-is
       ∙ opened-one (newHeader (asked r) (r .salt) (r .keys)) (r .code) (r .hostSize) (parts .whole) (passed .knownCode) (passed .host)
-      ∙ judged-back (asked r) (passed .host) (passed .area) parts (p .keyBytes) small known (p .programBits) (passed .supported)
+      ∙ judged-back (asked r) (passed .host) (passed .sectors) (passed .area) parts (p .keyBytes) small known (p .programBits) (passed .supported)
 
   told : (magic : ℕ) → magicNumber (r .magic) ≡ magic → asked r ≡ layoutFor magic r
   unfolding Passes

@@ -3,7 +3,7 @@
 use Prim.Native.Nat.{ℕ, zero, suc, _≤_, _<_}
 use native.Mathlib.Nat.{le-of-suc-le-suc}
 use native.Mathlib.Omega.{arith}
-use mathlib.Core.{Path.{_≡_, refl, sym, subst}, Logic._↔_, Bool.{Bool, true, false, _&&_, not, true≢false}, List.{List, [], _∷_}}
+use mathlib.Core.{Path.{_≡_, refl, sym, subst}, Logic.{_↔_, _⊎_, inl, inr, ⊎-elim}, Bool.{Bool, true, false, _&&_, _||_, not, true≢false}, List.{List, [], _∷_}}
 use lib.{Dec.{leb, eqb}, ListN.{length, getD}}
 use borrow.Author.Tests.{leb-true, leb-false, eqb-true, eqb-false}
 
@@ -44,6 +44,11 @@ pub reflects-and : {P Q : Type 0} {a b : Bool} → Reflects P a → Reflects Q b
 reflects-and (holds p) (holds q) = holds (p, q)
 reflects-and (holds p) (fails g) = fails (λ x. g (x .1))
 reflects-and (fails f) r = fails (λ x. f (x .0))
+
+pub reflects-or : {P Q : Type 0} {a b : Bool} → Reflects P a → Reflects Q b → Reflects (P ⊎ Q) (a || b)
+reflects-or (holds p) r = holds (inl p)
+reflects-or (fails f) (holds q) = holds (inr q)
+reflects-or (fails f) (fails g) = fails (⊎-elim f g)
 
 pub reflects-not : {P : Type 0} {b : Bool} → Reflects P b → Reflects (P → ⊥) (not b)
 reflects-not (holds p) = fails (λ f. f p)

@@ -1,15 +1,17 @@
--- The tests before any candidate, of the lengths, the codes and the host's size, and of a new header's lengths, reflect what the guarantees
--- say of them.
+-- The tests before any candidate, of the lengths, the codes and the host's size, and those of a multiple, of a sector size and of a new
+-- header's lengths, reflect what the guarantees say of them.
 -- Assumes nothing.
-use Prim.Native.Nat.{ℕ, _*_, _%_, _^_, _≤_}
-use mathlib.Core.{Path._≡_, List.{List, [], _∷_}}
+use Prim.Native.Nat.{ℕ, _+_, _*_, _/_, _%_, _^_, _≤_}
+use native.Mathlib.Nat.{add-zero, div-add-mod', mul-mod-left}
+use mathlib.Core.{Path.{_≡_, sym, ap, _∙_}, List.{List, [], _∷_}}
 use lib.ListN.{length}
-use Rattle.layout.specs.Rules.{hostSizeRule}
+use Rattle.layout.specs.Rules.{multiple, hostSizeRule, sectorSizeRule}
 use Rattle.locations.specs.Locations.{codeRule}
 use Rattle.new_header.specs.NewHeader.{newLengthsRule}
 use Rattle.opening.specs.Opening.{lengthsRule, codesRule}
-use Rattle.guarantees.specs.Opening.{Lengths, Codes, HostSize}
-use Rattle.guarantees.proofs.Reflects.{Reflects, reflects-map, reflects-and, reflects-eqb, reflects-leb, reflects-nil, reflects-cons}
+use Rattle.guarantees.specs.{Header.{Multiple, SectorSize}, Opening.{Lengths, Codes, HostSize}}
+use Rattle.guarantees.proofs.Reflects.{Reflects, reflects-map, reflects-and, reflects-or, reflects-eqb, reflects-leb}
+use Rattle.guarantees.proofs.Reflects.{reflects-nil, reflects-cons}
 
 pub lengths-reflects : (candidates codes : List ℕ) → Reflects (Lengths candidates codes) (lengthsRule candidates codes)
 unfolding lengthsRule
@@ -32,6 +34,17 @@ pub codes-reflects : (codes : List ℕ) → Reflects (Codes codes) (codesRule co
 unfolding Codes codesRule
 codes-reflects [] = reflects-nil (λ code. code ≤ 3)
 codes-reflects (code ∷ codes) = reflects-cons (λ c. c ≤ 3) code codes (code-reflects code) (codes-reflects codes)
+
+pub multiple-reflects : (number of : ℕ) → Reflects (Multiple number of) (multiple number of)
+unfolding multiple
+multiple-reflects number of =
+    reflects-map (λ e. (number / of, sym (div-add-mod' number of) ∙ ap (λ (rest : ℕ). number / of * of + rest) e ∙ add-zero (number / of * of)))
+    (λ m. ap (λ (n : ℕ). n % of) (m .1) ∙ mul-mod-left (m .0) of) (reflects-eqb (number % of) 0)
+
+pub sector-size-reflects : (size : ℕ) → Reflects (SectorSize size) (sectorSizeRule size)
+unfolding sectorSizeRule
+sector-size-reflects size =
+    reflects-or (reflects-eqb size 512) (reflects-or (reflects-eqb size 1024) (reflects-or (reflects-eqb size 2048) (reflects-eqb size 4096)))
 
 pub host-size-reflects : (hostSize : ℕ) → Reflects (HostSize hostSize) (hostSizeRule hostSize)
 unfolding hostSizeRule

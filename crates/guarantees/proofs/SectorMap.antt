@@ -7,12 +7,12 @@ use lib.ListN.{getD}
 use Rattle.layout.specs.declared.Layout.{Layout}
 use Rattle.sector_map.specs.SectorMap.{sectors, sectorCount, hostSector, userSector, tweakNumber, blockOf, tweakOf}
 use Rattle.answers.specs.declared.Numbered.the-variants.{Number}
-use Rattle.guarantees.specs.{Header.{dataArea, Keeps}, Opening.{HostSize, IsAccepted, TellsAt}}
+use Rattle.guarantees.specs.{Header.{sectorSize, dataArea, Keeps}, Opening.{HostSize, IsAccepted, TellsAt}}
 use Rattle.guarantees.specs.SectorMap.{Sound, MapsSectors, RefusesUnsound, MapsExactly, OpenedIsSound}
 use Rattle.guarantees.proofs.Reflects.{is-true, is-false}
 use Rattle.guarantees.proofs.CandidateLaws.{kind-of-says}
 use Rattle.guarantees.proofs.Opening.{opens-exactly-when}
-use Rattle.guarantees.proofs.SoundLaws.{sound-reflects}
+use Rattle.guarantees.proofs.SoundLaws.{sound-reflects, sound-on-sectors}
 use Rattle.guarantees.proofs.BlockLaws.{block-of-number}
 use Rattle.guarantees.proofs.MapLaws.{is-number, is-refused, number-says}
 use Rattle.guarantees.proofs.MapLaws.{host-sector-answers, user-sector-answers, host-sector-in-area, in-area-outside}
@@ -23,6 +23,7 @@ maps-sectors layout s =
     let there = host-sector-answers layout s in
     let back = user-sector-answers layout s in
     let inside = host-sector-in-area layout s in
+    let on = sound-on-sectors layout s in
     record {
       count = rw (is-true (sound-reflects layout) s);
       there = λ user. is-number (there user);
@@ -59,6 +60,7 @@ accepted-sound candidates codes hostSize i layout size accepted told =
     let area = accepted .keeps dataArea i layout told in
     record {
       size = rw (told .hostSizeTold) size;
+      sectors = rw (told .sectorSizeTold) (accepted .keeps sectorSize);
       known = rw (told .kindTold) (kind-of-says (getD codes i 0));
       area = rw (area .encrypted) at area;
     }

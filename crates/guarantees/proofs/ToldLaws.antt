@@ -1,11 +1,11 @@
 -- What the layout of a header tells, and that two layouts which tell the same header have the same data area.
 -- Assumes nothing.
-use Prim.Native.Nat.{ℕ}
+use Prim.Native.Nat.{ℕ, _*_}
 use native.Mathlib.Omega.{arith}
-use mathlib.Core.{Path.{_≡_, refl, sym, _∙_}, Logic.{inl, inr}, List.List}
+use mathlib.Core.{Path.{_≡_, refl, sym, ap, _∙_}, Logic.{inl, inr}, List.List}
 use Rattle.layout.specs.declared.Layout.{Layout}
 use Rattle.header.specs.Header.{magicOf, fieldsOf, acceptedLayout}
-use Rattle.guarantees.specs.Header.{veraLetters, trueLetters, Tells, DataArea}
+use Rattle.guarantees.specs.Header.{veraLetters, trueLetters, Multiple, Tells, DataArea}
 use Rattle.guarantees.proofs.HeaderLaws.{MagicIs, spellsVera, spellsTrue, spellsNeither, magic-of-says}
 
 -- what the candidate tells where it is accepted
@@ -35,15 +35,22 @@ layout-tells kind hostSize index h =
       startTold = refl;
       sizeTold = refl;
       candidateTold = refl;
+      sectorSizeTold = refl;
     }
+
+-- multiples of the same
+same-multiple : {number other of unit : ℕ} → number ≡ other → of ≡ unit → Multiple number of → Multiple other unit
+same-multiple e f m = (m .0, sym e ∙ m .1 ∙ ap (λ (z : ℕ). m .0 * z) f)
 
 pub tells-area : {kind hostSize index other encryptedSize : ℕ} {h : List ℕ} {a b : Layout}
     → Tells kind hostSize index h a → Tells kind hostSize other h b → DataArea a encryptedSize → DataArea b encryptedSize
 tells-area s t area =
+    let sectors = s .sectorSizeTold ∙ sym (t .sectorSizeTold) in
     record {
       atLeast = omega (arith, area .atLeast, s .sizeTold, t .sizeTold);
-      sizeMultiple = omega (arith, area .sizeMultiple, s .sizeTold, t .sizeTold);
-      startMultiple = omega (arith, area .startMultiple, s .startTold, t .startTold);
+      sizeMultiple = same-multiple (s .sizeTold ∙ sym (t .sizeTold)) sectors (area .sizeMultiple);
+      startMultiple = same-multiple (s .startTold ∙ sym (t .startTold)) sectors (area .startMultiple);
+      hostMultiple = same-multiple (s .hostSizeTold ∙ sym (t .hostSizeTold)) sectors (area .hostMultiple);
       encrypted = omega (arith, area .encrypted, s .sizeTold, t .sizeTold);
       standardStart = λ e. omega (arith, area .standardStart (s .kindTold ∙ sym (t .kindTold) ∙ e), s .startTold, t .startTold);
       hiddenStart = λ e. omega (arith, area .hiddenStart (s .kindTold ∙ sym (t .kindTold) ∙ e), s .startTold, t .startTold);

@@ -15,6 +15,7 @@ use Rattle.guarantees.specs.{Table.Call, Views.area}
 use Rattle.guarantees.proofs.CoversLaws.{consecutive, length-consecutive, every-consecutive, distinct-consecutive}
 use Rattle.guarantees.proofs.ExtentLaws.{covers-extent}
 use Rattle.guarantees.proofs.RangeLaws.{each-outside}
+use Rattle.guarantees.proofs.SoundLaws.{sound-on-sectors}
 use Rattle.guarantees.proofs.TableLaws.{Fits, tabled-accepted, later-untouched}
 
 module _ (layout : Layout) (s : Sound layout) (size : ℕ) (call : Call) (fits : Fits layout size call) where
@@ -46,8 +47,8 @@ module _ (layout : Layout) (s : Sound layout) (size : ℕ) (call : Call) (fits :
       (every-consecutive (λ host. inRange (area layout) host ≡ true) start (call .count)
       (λ host h k.
       rw (
-        le-leb (layout .«data_start») (host * 512) (omega (arith, fits .inside, s .area .startMultiple)),
-        lt-ltb (host * 512) (layout .«data_start» + layout .«data_size») (omega (arith, fits .inside, s .area .startMultiple)),
+        le-leb (layout .«data_start») (host * 512) (omega (arith, fits .inside, sound-on-sectors layout s)),
+        lt-ltb (host * 512) (layout .«data_start» + layout .«data_size») (omega (arith, fits .inside, sound-on-sectors layout s)),
       )))
 
 module _ (layout : Layout) (protection : Protection) (s : Sound layout) where

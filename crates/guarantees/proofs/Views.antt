@@ -6,7 +6,7 @@ use Rattle.making.specs.Views.{plainOf, protectedOf, madeBy, plainView, protect
 use Rattle.guarantees.specs.Views.{MakesViews}
 use Rattle.guarantees.proofs.Reflects.{is-true, is-false, reflects-and}
 use Rattle.guarantees.proofs.SoundLaws.{sound-reflects}
-use Rattle.guarantees.proofs.NestLaws.{nests-reflects, plain-sound, protecting-sound}
+use Rattle.guarantees.proofs.NestLaws.{nests-reflects, plain-sound, protecting-sound, range-whole}
 
 pub makes-views : (outer hiddenLayout : Layout) → MakesViews outer hiddenLayout
 unfolding plainView protectedView plainOf protectedOf madeBy paired areaEnd
@@ -19,4 +19,5 @@ makes-views outer hiddenLayout =
       guardedApart = λ s t f. simp (is-true (sound-reflects outer) s, is-true (sound-reflects hiddenLayout) t, is-false (nests-reflects outer hiddenLayout) f);
       plainSound = plain-sound outer;
       guardedSound = λ locked s t n. protecting-sound outer hiddenLayout locked (record { outerSound = s; hiddenSound = t; nested = n });
+      guardedWhole = λ t n. range-whole outer hiddenLayout t n;
     }

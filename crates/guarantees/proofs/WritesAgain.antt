@@ -7,7 +7,7 @@ use lib.{Dec.{leb, eqb}, ListN.{length, length-take, length-drop}}
 use borrow.Author.Tests.{eq-eqb, leb-true}
 use Rattle.bits.specs.Bits.{Bytes}
 use Rattle.fields.specs.Bytes.{part}
-use Rattle.layout.specs.{Rules.{hostSizeRule, dataAreaRule}, declared.{Layout.Layout, Opened.the-variants.Accepted}}
+use Rattle.layout.specs.{Rules.{hostSizeRule, sectorSizeRule, dataAreaRule}, declared.{Layout.Layout, Opened.the-variants.Accepted}}
 use Rattle.layout.proofs.RuleLaws.{and-true-right}
 use Rattle.locations.specs.Locations.{codeRule, locationOf}
 use Rattle.header.specs.Header.{magicNumber, magicOf, fieldsOf, versionRule, acceptedLayout, areaRule}
@@ -70,6 +70,10 @@ module _ (h : List ℕ) (code hostSize : ℕ) (layout : Layout) (before : List �
       ap dataAreaRule (sym (kept .told))
       ∙ and-true-right (eqb (fieldsOf h .«encrypted_size») (fieldsOf h .«data_size»)) (dataAreaRule told) (kept .dataArea)
 
+  sectors-kept : sectorSizeRule (layout .«sector_size») ≡ true
+  unfolding acceptedLayout
+  sectors-kept = ap (λ (l : Layout). sectorSizeRule (l .«sector_size»)) (sym (kept .told)) ∙ kept .sectorSize
+
   -- a part of the header has its size
   part-size : (offset size : ℕ) → leb (offset + size) 512 ≡ true → length (part offset size h) ≡ size
   part-size offset size inside = simp (length-take, length-drop) (omega (arith, whole, leb-true (offset + size) 512 inside))
@@ -91,6 +95,7 @@ module _ (h : List ℕ) (code hostSize : ℕ) (layout : Layout) (before : List �
           «data_start» = layout .«data_start»;
           «data_size» = layout .«data_size»;
           candidate = candidate-told i;
+          «sector_size» = layout .«sector_size»;
         }
 
     done : answerTo request before ≡ Done
@@ -108,6 +113,7 @@ module _ (h : List ℕ) (code hostSize : ℕ) (layout : Layout) (before : List �
           code-kept,
           ap hostSizeRule (sym host-told) ∙ host-kept,
           ap (λ (m : ℕ). versionRule m (layout .version)) (sym is) ∙ version-kept,
+          sectors-kept,
           area-kept,
         )
 

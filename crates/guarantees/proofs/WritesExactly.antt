@@ -7,9 +7,10 @@ use lib.ListN.{length}
 use Rattle.header_writing.specs.{HeaderWriting.{headerAnswer, headerLeft}, declared.Written.{Written, the-variants.{Done, Refused}}}
 use Rattle.header_writing.proofs.AnswerLaws.{Passed, done-passed}
 use Rattle.guarantees.specs.Writing.{Request, answerTo, leftBy, Check, place, refusalOf, Passes, FirstFailed, WritesExactly}
-use Rattle.guarantees.specs.Writing.{rightLengths, knownMagic, knownCode, allowedHost, supportedVersion, allowedArea}
+use Rattle.guarantees.specs.Writing.{rightLengths, knownMagic, knownCode, allowedHost, supportedVersion, allowedSectors, allowedArea}
 use Rattle.guarantees.proofs.Reflects.{Reflects, holds, fails, is-true, is-false, holds-true, below-suc}
-use Rattle.guarantees.proofs.WritingLaws.{asked, lengths-pass, magic-passes, code-passes, host-passes, version-passes, area-passes}
+use Rattle.guarantees.proofs.WritingLaws.{asked, lengths-pass, magic-passes, code-passes, host-passes, version-passes, sectors-pass}
+use Rattle.guarantees.proofs.WritingLaws.{area-passes}
 
 -- the check at a place; no two have one place
 abbrev checkAt : ℕ → Check
@@ -18,7 +19,8 @@ checkAt (suc zero) = knownMagic
 checkAt (suc (suc zero)) = knownCode
 checkAt (suc (suc (suc zero))) = allowedHost
 checkAt (suc (suc (suc (suc zero)))) = supportedVersion
-checkAt (suc (suc (suc (suc (suc n))))) = allowedArea
+checkAt (suc (suc (suc (suc (suc zero))))) = allowedSectors
+checkAt (suc (suc (suc (suc (suc (suc n)))))) = allowedArea
 
 check-at-place : (check : Check) → checkAt (place check) ≡ check
 unfolding place
@@ -27,18 +29,20 @@ check-at-place knownMagic = refl
 check-at-place knownCode = refl
 check-at-place allowedHost = refl
 check-at-place supportedVersion = refl
+check-at-place allowedSectors = refl
 check-at-place allowedArea = refl
 
 place-injective : (a b : Check) → place a ≡ place b → a ≡ b
 place-injective a b e = sym (check-at-place a) ∙ ap checkAt e ∙ check-at-place b
 
-place-bound : (check : Check) → place check < 6
+place-bound : (check : Check) → place check < 7
 unfolding place
 place-bound rightLengths = omega arith
 place-bound knownMagic = omega arith
 place-bound knownCode = omega arith
 place-bound allowedHost = omega arith
 place-bound supportedVersion = omega arith
+place-bound allowedSectors = omega arith
 place-bound allowedArea = omega arith
 
 module _ (r : Request) (before : List ℕ) where
@@ -54,7 +58,8 @@ module _ (r : Request) (before : List ℕ) where
         is-true (code-passes r size) (all knownCode),
         is-true (host-passes r size) (all allowedHost),
         is-true (version-passes r size (all knownMagic)) (all supportedVersion),
-        is-true (area-passes r size (all knownCode)) (all allowedArea),
+        is-true (sectors-pass r size) (all allowedSectors),
+        is-true (area-passes r size (all knownCode) (all allowedSectors)) (all allowedArea),
       )
 
   passed : answerTo r before ≡ Done → Passed (r .code) (asked r) (length (r .salt)) (length (r .keys)) size
@@ -66,7 +71,10 @@ module _ (r : Request) (before : List ℕ) where
   only-writes e knownCode = holds-true (code-passes r size) (passed e .knownCode)
   only-writes e allowedHost = holds-true (host-passes r size) (passed e .host)
   only-writes e supportedVersion = holds-true (version-passes r size (holds-true (magic-passes r size) (passed e .knownMagic))) (passed e .supported)
-  only-writes e allowedArea = holds-true (area-passes r size (holds-true (code-passes r size) (passed e .knownCode))) (passed e .area)
+  only-writes e allowedSectors = holds-true (sectors-pass r size) (passed e .sectors)
+  only-writes e allowedArea =
+      holds-true (area-passes r size (holds-true (code-passes r size) (passed e .knownCode)) (holds-true (sectors-pass r size) (passed e .sectors)))
+      (passed e .area)
 
   refuses : (check : Check) → FirstFailed check r size → answerTo r before ≡ Refused (refusalOf check)
   unfolding headerAnswer place refusalOf
@@ -93,6 +101,15 @@ module _ (r : Request) (before : List ℕ) where
         is-true (host-passes r size) (f .earlier allowedHost (omega arith)),
         is-false (version-passes r size (f .earlier knownMagic (omega arith))) (f .failed),
       )
+  refuses allowedSectors f =
+      simp (
+        is-true (lengths-pass r size) (f .earlier rightLengths (omega arith)),
+        is-true (magic-passes r size) (f .earlier knownMagic (omega arith)),
+        is-true (code-passes r size) (f .earlier knownCode (omega arith)),
+        is-true (host-passes r size) (f .earlier allowedHost (omega arith)),
+        is-true (version-passes r size (f .earlier knownMagic (omega arith))) (f .earlier supportedVersion (omega arith)),
+        is-false (sectors-pass r size) (f .failed),
+      )
   refuses allowedArea f =
       simp (
         is-true (lengths-pass r size) (f .earlier rightLengths (omega arith)),
@@ -100,7 +117,8 @@ module _ (r : Request) (before : List ℕ) where
         is-true (code-passes r size) (f .earlier knownCode (omega arith)),
         is-true (host-passes r size) (f .earlier allowedHost (omega arith)),
         is-true (version-passes r size (f .earlier knownMagic (omega arith))) (f .earlier supportedVersion (omega arith)),
-        is-false (area-passes r size (f .earlier knownCode (omega arith))) (f .failed),
+        is-true (sectors-pass r size) (f .earlier allowedSectors (omega arith)),
+        is-false (area-passes r size (f .earlier knownCode (omega arith)) (f .earlier allowedSectors (omega arith))) (f .failed),
       )
 
   unchanged : (number : ℕ) → answerTo r before ≡ Refused number → leftBy r before ≡ before
@@ -126,8 +144,9 @@ module _ (r : Request) (before : List ℕ) where
       check-says knownCode (code-passes r size) to2 (λ f. inr (knownCode, f)) λ to3.
       check-says allowedHost (host-passes r size) to3 (λ f. inr (allowedHost, f)) λ to4.
       check-says supportedVersion (version-passes r size (to2 1 (omega arith) knownMagic refl)) to4 (λ f. inr (supportedVersion, f)) λ to5.
-      check-says allowedArea (area-passes r size (to3 2 (omega arith) knownCode refl)) to5 (λ f. inr (allowedArea, f)) λ to6.
-      inl (λ check. to6 (place check) (place-bound check) check refl)
+      check-says allowedSectors (sectors-pass r size) to5 (λ f. inr (allowedSectors, f)) λ to6.
+      check-says allowedArea (area-passes r size (to3 2 (omega arith) knownCode refl) (to6 5 (omega arith) allowedSectors refl)) to6 (λ f. inr (allowedArea, f)) λ to7.
+      inl (λ check. to7 (place check) (place-bound check) check refl)
 
   pub writes-exactly : WritesExactly r before
   writes-exactly = record { writes = writes; onlyWrites = only-writes; refuses = refuses; oneHolds = one-holds; unchanged = unchanged }

@@ -2,23 +2,24 @@
 use Prim.Native.Nat.{ℕ, _≤_}
 use mathlib.Core.Path.{_≡_}
 use lib.{Dec.leb, ListN.length}
-use Rattle.layout.specs.{Rules.{hostSizeRule, dataAreaRule}, declared.Layout.Layout}
+use Rattle.layout.specs.{Rules.{hostSizeRule, sectorSizeRule, dataAreaRule}, declared.Layout.Layout}
 use Rattle.locations.specs.Locations.{codeRule}
 use Rattle.header.specs.Header.{magicNumber, versionRule}
 use Rattle.new_header.specs.NewHeader.{newLengthsRule}
 use Rattle.header_writing.specs.HeaderWriting.{askedLayout}
 use Rattle.guarantees.specs.Header.{DataArea}
-use Rattle.guarantees.specs.Writing.{Request, layoutFor, rightLengths, knownMagic, knownCode, allowedHost, supportedVersion, allowedArea, Passes}
+use Rattle.guarantees.specs.Writing.{Request, layoutFor, rightLengths, knownMagic, knownCode, allowedHost, supportedVersion, Passes}
+use Rattle.guarantees.specs.Writing.{allowedSectors, allowedArea}
 use Rattle.guarantees.proofs.CandidateLaws.{location-of-kind, kind-of-says}
 use Rattle.guarantees.proofs.HeaderLaws.{magic-number-says, magic-reflects}
 use Rattle.guarantees.proofs.LineLaws.{supported-reflects}
 use Rattle.guarantees.proofs.Reflects.{Reflects, reflects-map}
-use Rattle.guarantees.proofs.RuleReflections.{new-lengths-reflects, code-reflects, host-size-reflects}
+use Rattle.guarantees.proofs.RuleReflections.{new-lengths-reflects, code-reflects, host-size-reflects, sector-size-reflects}
 use Rattle.guarantees.proofs.SoundLaws.{data-area-rule-reflects}
 
 -- what the definitions judge
 abbrev pub asked : Request → Layout
-asked r = askedLayout (r .magic) (r .version) (r .minProgramVersion) (r .code) (r .hostSize) (r .dataStart) (r .dataSize)
+asked r = askedLayout (r .magic) (r .version) (r .minProgramVersion) (r .code) (r .hostSize) (r .dataStart) (r .dataSize) (r .sectorSize)
 
 -- for a known code it is the layout that the guarantees speak of
 pub asked-is : (r : Request) → r .code ≤ 3 → asked r ≡ layoutFor (magicNumber (r .magic)) r
@@ -34,6 +35,7 @@ asked-is r known =
       «data_start» = r .dataStart;
       «data_size» = r .dataSize;
       candidate = 0;
+      «sector_size» = r .sectorSize;
     }
 
 -- a data area has nothing to do with the magic
@@ -43,6 +45,7 @@ any-magic r a b fits =
       atLeast = fits .atLeast;
       sizeMultiple = fits .sizeMultiple;
       startMultiple = fits .startMultiple;
+      hostMultiple = fits .hostMultiple;
       encrypted = fits .encrypted;
       standardStart = fits .standardStart;
       hiddenStart = fits .hiddenStart;
@@ -70,10 +73,14 @@ module _ (r : Request) (size : ℕ) where
   unfolding Passes askedLayout
   version-passes known = supported-reflects (r .magic) (r .version) known (magic-number-says (r .magic))
 
-  pub area-passes : Passes knownCode r size → Reflects (Passes allowedArea r size) (dataAreaRule (asked r))
+  pub sectors-pass : Reflects (Passes allowedSectors r size) (sectorSizeRule (asked r .«sector_size»))
+  unfolding Passes askedLayout
+  sectors-pass = sector-size-reflects (r .sectorSize)
+
+  pub area-passes : Passes knownCode r size → Passes allowedSectors r size → Reflects (Passes allowedArea r size) (dataAreaRule (asked r))
   unfolding Passes
-  area-passes known =
+  area-passes known sectors =
       let told = layoutFor (magicNumber (r .magic)) r in
       rw (asked-is r known)
-      (reflects-map (λ p. any-magic r (magicNumber (r .magic)) 0 (p .1)) (λ a. (kind-of-says (r .code), any-magic r 0 (magicNumber (r .magic)) a))
+      (reflects-map (λ p. any-magic r (magicNumber (r .magic)) 0 (p .2)) (λ a. (kind-of-says (r .code), sectors, any-magic r 0 (magicNumber (r .magic)) a))
       (data-area-rule-reflects told))

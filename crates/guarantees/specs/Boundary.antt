@@ -68,8 +68,8 @@ pub record ReturnsZero : Type 0 where
       → (answerRefusal (viewWrite view (length image) first count (length buffer)) ≡ 0) ↔ (outcome .answer ≡ access.Accepted)
 
 -- the order of the numbers that are passed: struct ondristela_layout and struct ondristela_view
-pub record OrdersNumbers (host kind magic version program start size candidate protected first end lock : ℕ) : Type 0 where
-  pub layout : layoutFrom (host ∷ kind ∷ magic ∷ version ∷ program ∷ start ∷ size ∷ candidate ∷ [])
+pub record OrdersNumbers (host kind magic version program start size candidate sectors protected first end lock : ℕ) : Type 0 where
+  pub layout : layoutFrom (host ∷ kind ∷ magic ∷ version ∷ program ∷ start ∷ size ∷ candidate ∷ sectors ∷ [])
       ≡ record {
         «host_size» = host;
         kind = kind;
@@ -79,11 +79,12 @@ pub record OrdersNumbers (host kind magic version program start size candidate p
         «data_start» = start;
         «data_size» = size;
         candidate = candidate;
+        «sector_size» = sectors;
       }
   -- any number but 0 tells of a protected range, and of a closed lock
-  pub view : viewFrom (host ∷ kind ∷ magic ∷ version ∷ program ∷ start ∷ size ∷ candidate ∷ protected ∷ first ∷ end ∷ lock ∷ [])
+  pub view : viewFrom (host ∷ kind ∷ magic ∷ version ∷ program ∷ start ∷ size ∷ candidate ∷ sectors ∷ protected ∷ first ∷ end ∷ lock ∷ [])
       ≡ record {
-        layout = layoutFrom (host ∷ kind ∷ magic ∷ version ∷ program ∷ start ∷ size ∷ candidate ∷ []);
+        layout = layoutFrom (host ∷ kind ∷ magic ∷ version ∷ program ∷ start ∷ size ∷ candidate ∷ sectors ∷ []);
         protection = cond (eqb protected 0) Unprotected (Protected first end);
         locked = not (eqb lock 0);
       }
@@ -92,7 +93,7 @@ pub record OrdersNumbers (host kind magic version program start size candidate p
 abbrev pub storedLayout : Layout → List ℕ
 storedLayout layout =
     layout .«host_size» ∷ layout .kind ∷ layout .magic ∷ layout .version ∷ layout .«min_program_version» ∷ layout .«data_start»
-    ∷ layout .«data_size» ∷ layout .candidate ∷ []
+    ∷ layout .«data_size» ∷ layout .candidate ∷ layout .«sector_size» ∷ []
 
 abbrev pub storedProtection : Protection → List ℕ
 storedProtection Unprotected = 0 ∷ 0 ∷ 0 ∷ []
@@ -118,8 +119,8 @@ pub record StoresAnswers (before : List ℕ) : Type 0 where
   pub viewBack : (view : View) → viewFrom (viewedLeft (making.Made view) before) ≡ view
   pub noView : (number : ℕ) → viewedLeft (making.Refused number) before ≡ before
   -- a write's numbers: 18 closes the lock, and any other number leaves them as they were
-  pub closes : (image : List ℕ) (first count : ℕ) (buffer other written left sector : List ℕ) → length before ≡ 12
-      → WriteCall before image first count buffer other 18 written left sector → left ≡ take 11 before ++ (1 ∷ [])
+  pub closes : (image : List ℕ) (first count : ℕ) (buffer other written left sector : List ℕ) → length before ≡ 13
+      → WriteCall before image first count buffer other 18 written left sector → left ≡ take 12 before ++ (1 ∷ [])
   pub sameView : (image : List ℕ) (first count : ℕ) (buffer other written left sector : List ℕ) (number : ℕ) → (number ≡ 18 → ⊥)
       → WriteCall before image first count buffer other number written left sector → left ≡ before
   -- an extent's first byte

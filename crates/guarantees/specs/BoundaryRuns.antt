@@ -17,9 +17,9 @@ use Rattle.guarantees.specs.{Table.{Operation, reads, writes, Call}, Vie
 abbrev pub Numbers : Type 0
 Numbers = State (Both (List ℕ))
 
--- a view has twelve numbers
-abbrev pub Twelve : Numbers → Type 0
-Twelve numbers = (side : Side) → length (at side (numbers .held)) ≡ 12
+-- a view has thirteen numbers
+abbrev pub Thirteen : Numbers → Type 0
+Thirteen numbers = (side : Side) → length (at side (numbers .held)) ≡ 13
 
 -- the views that they tell
 abbrev pub told : Numbers → State (Both View)
@@ -71,7 +71,7 @@ pub record CarriesRuns (numbers : Numbers) : Type 0 where
   -- every list of calls has a sequence of such calls
   pub runs : (turns : List (Turn Call)) → (answers : List (Reply Said)) × (last : Numbers) × Run (OnSide NumberStep) numbers turns answers last
   -- and each is a run on the views that the numbers tell, with the answers that are told, and the same bytes and image
-  pub isRun : Twelve numbers → (turns : List (Turn Call)) (answers : List (Reply Said)) (last : Numbers)
+  pub isRun : Thirteen numbers → (turns : List (Turn Call)) (answers : List (Reply Said)) (last : Numbers)
       → Run (OnSide NumberStep) numbers turns answers last → Run (OnSide Step) (told numbers) turns (map replyTold answers) (told last)
 
 -- where such runs begin: the numbers stored for the two views of demand 3 tell its start
@@ -79,5 +79,5 @@ pub record BeginsRuns (outerLayout hiddenLayout : Layout) : Type 0 where
   pub start : Sound outerLayout → Sound hiddenLayout → Nested outerLayout hiddenLayout → (before other image : List ℕ)
       → told (storedFor outerLayout hiddenLayout before other image)
       ≡ viewsOf outerLayout hiddenLayout (record { image = image; held = record { outerOne = false; hiddenOne = false } })
-  pub twelve : Sound outerLayout → Sound hiddenLayout → Nested outerLayout hiddenLayout → (before other image : List ℕ)
-      → Twelve (storedFor outerLayout hiddenLayout before other image)
+  pub thirteen : Sound outerLayout → Sound hiddenLayout → Nested outerLayout hiddenLayout → (before other image : List ℕ)
+      → Thirteen (storedFor outerLayout hiddenLayout before other image)

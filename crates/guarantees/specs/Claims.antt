@@ -10,7 +10,7 @@ use Rattle.guarantees.specs.{BoundaryRuns.{Numbers, CarriesRuns, BeginsR
 use Rattle.guarantees.specs.{FromHeaders.FromHeaders, InTheWay.NamesSectors, Interleaving.Demand3, Judging.{KeepsRules, JudgesExactly, GivesKeys}}
 use Rattle.guarantees.specs.{MapProgram.{ReadsInput, PrintsLines}, Numbers.{SpellsNumbers, ChecksBytes}}
 use Rattle.guarantees.specs.{Opening.{OpensExactlyWhen, LocatesHeaders}, Parts.KeepsParts, Placing.{PlacesExtents, PlacesNumbers}}
-use Rattle.guarantees.specs.{SectorMap.{MapsExactly, OpenedIsSound}, Views.MakesViews}
+use Rattle.guarantees.specs.{SameAt512.SameAt512, SectorMap.{MapsExactly, OpenedIsSound}, Views.MakesViews}
 use Rattle.guarantees.specs.Writing.{Request, WritesExactly, LaysHeaders, ReadsBack, WritesAgain}
 
 pub record Claims : Type 0 where
@@ -44,8 +44,8 @@ pub record Claims : Type 0 where
   -- the boundary for C and Rust
   pub told : TellsNumbers
   pub zero : ReturnsZero
-  pub ordered : (host kind magic version program start size candidate protected first end lock : ℕ)
-      → OrdersNumbers host kind magic version program start size candidate protected first end lock
+  pub ordered : (host kind magic version program start size candidate sectors protected first end lock : ℕ)
+      → OrdersNumbers host kind magic version program start size candidate sectors protected first end lock
   pub stored : (before : List ℕ) → StoresAnswers before
   pub begun : (outerLayout hiddenLayout : Layout) → BeginsRuns outerLayout hiddenLayout
   pub carried : (numbers : Numbers) → CarriesRuns numbers
@@ -54,3 +54,5 @@ pub record Claims : Type 0 where
   -- the map program
   pub input : ReadsInput
   pub output : PrintsLines
+  -- sectors of 512 bytes: every rule as before
+  pub at512 : SameAt512

@@ -1,5 +1,5 @@
--- From headers to demand 3: two candidates that open at their location codes for one host size, and whose data areas nest, give views for
--- which demand 3 holds, with the data areas that the headers tell. Assumes nothing.
+-- From headers to demand 3: two candidates that open at their location codes for one host size, with one sector size, and whose data areas
+-- nest, give views for which demand 3 holds, with the data areas that the headers tell. Assumes nothing.
 use Prim.Native.Nat.{ℕ, _+_, _≤_}
 use mathlib.Core.{Path._≡_, Bool.{Bool, false}, List.{List, [], _∷_}}
 use Rattle.layout.specs.declared.{Layout.Layout, Opened.the-variants.Accepted}
@@ -16,10 +16,11 @@ pub record HasArea (hostSize : ℕ) (h : List ℕ) (layout : Layout) : Type 0 wh
   pub start : layout .«data_start» ≡ fieldsAt h .«data_start»
   pub size : layout .«data_size» ≡ fieldsAt h .«data_size»
 
--- a header at a standard volume's location, and one at a hidden volume's whose data area lies in the first's
+-- a header at a standard volume's location, and one at a hidden volume's, with the same Z, whose data area lies in the first's
 pub record HeadersNest (outerHeader hiddenHeader : List ℕ) (outerCode hiddenCode : ℕ) : Type 0 where
   pub firstStandard : kindOf outerCode ≡ 0
   pub secondHidden : kindOf hiddenCode ≡ 1
+  pub sameSectors : fieldsAt outerHeader .«sector_size» ≡ fieldsAt hiddenHeader .«sector_size»
   pub starts : fieldsAt outerHeader .«data_start» ≤ fieldsAt hiddenHeader .«data_start»
   pub ends : fieldsAt hiddenHeader .«data_start» + fieldsAt hiddenHeader .«data_size»
       ≤ fieldsAt outerHeader .«data_start» + fieldsAt outerHeader .«data_size»

@@ -1,6 +1,6 @@
 -- The 512 header bytes (RULES.md, Header bytes): when a candidate is a header, the six lines that an accepted one keeps, and what its
 -- layout tells. Stated over the bytes at their offsets, apart from the definitions that the contracts cite. Assumes nothing.
-use Prim.Native.Nat.{ℕ, _+_, _/_, _%_, _≤_, _<_}
+use Prim.Native.Nat.{ℕ, _+_, _*_, _/_, _%_, _≤_, _<_}
 use mathlib.Core.{Path._≡_, Logic._⊎_, List.{List, [], _∷_}}
 use lib.ListN.{take, drop}
 use Rattle.numbers.specs.Numbers.{bigEndian}
@@ -53,6 +53,14 @@ pub record IsHeader (h : List ℕ) : Type 0 where
   pub keys : crc32 (bytesAt 256 256 h) ≡ bigEndian (bytesAt 72 4 h)
   pub fields : crc32 (bytesAt 64 188 h) ≡ bigEndian (bytesAt 252 4 h)
 
+-- a number is a multiple of another: so many times it
+abbrev pub Multiple : ℕ → ℕ → Type 0
+Multiple number of = (times : ℕ) × (number ≡ times * of)
+
+-- the sizes that a disk's own sectors may have
+abbrev pub SectorSize : ℕ → Type 0
+SectorSize size = (size ≡ 512) ⊎ ((size ≡ 1024) ⊎ ((size ≡ 2048) ⊎ (size ≡ 4096)))
+
 -- one of the two kinds; a made-up kind breaks the line of the hidden size
 abbrev pub KnownKind : ℕ → Type 0
 KnownKind kind = (kind ≡ standard) ⊎ (kind ≡ hidden)
@@ -81,13 +89,15 @@ pub record Tells (kind hostSize index : ℕ) (h : List ℕ) (layout : Layout) : 
   pub startTold : layout .«data_start» ≡ fieldsAt h .«data_start»
   pub sizeTold : layout .«data_size» ≡ fieldsAt h .«data_size»
   pub candidateTold : layout .candidate ≡ index
+  pub sectorSizeTold : layout .«sector_size» ≡ fieldsAt h .«sector_size»
 
--- the last line: a data area of whole sectors and at least one, all of it encrypted, that starts where its kind may and leaves the backup
--- headers free; the sums are of whole numbers
+-- the last line: a data area of whole sectors of the disk and at least one, as is the host, all of it encrypted, that starts where its kind
+-- may and leaves the backup headers free; the sums are of whole numbers
 pub record DataArea (layout : Layout) (encryptedSize : ℕ) : Type 0 where
   pub atLeast : 512 ≤ layout .«data_size»
-  pub sizeMultiple : layout .«data_size» % 512 ≡ 0
-  pub startMultiple : layout .«data_start» % 512 ≡ 0
+  pub sizeMultiple : Multiple (layout .«data_size») (layout .«sector_size»)
+  pub startMultiple : Multiple (layout .«data_start») (layout .«sector_size»)
+  pub hostMultiple : Multiple (layout .«host_size») (layout .«sector_size»)
   pub encrypted : encryptedSize ≡ layout .«data_size»
   pub standardStart : layout .kind ≡ standard → layout .«data_start» ≡ 131072
   pub hiddenStart : layout .kind ≡ hidden → 131072 ≤ layout .«data_start»
@@ -98,7 +108,7 @@ unfoldable pub Keeps : Line → ℕ → ℕ → List ℕ → Type 0
 Keeps version kind hostSize h = Supported (bytesAt 64 4 h) (fieldsAt h .version)
 Keeps reserved kind hostSize h = (fieldsAt h .flags / 4 ≡ 0) × (IsVera h → AllZero (bytesAt 76 16 h) × AllZero (bytesAt 132 120 h))
 Keeps flags kind hostSize h = fieldsAt h .flags % 4 ≡ 0
-Keeps sectorSize kind hostSize h = fieldsAt h .«sector_size» ≡ 512
+Keeps sectorSize kind hostSize h = SectorSize (fieldsAt h .«sector_size»)
 Keeps hiddenSize kind hostSize h =
     KnownKind kind
     × ((kind ≡ standard → fieldsAt h .«hidden_size» ≡ 0)

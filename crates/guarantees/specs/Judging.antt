@@ -1,14 +1,15 @@
--- What stands below opening: the rules for a host's size, a data area and a layout, a magic and its versions, the judgement of one
--- candidate, and the key bytes. `hostSizeRule`, `dataAreaRule`, `sound`, `magicNumber`, `versionRule`, `judge` and `KeyBytes` are the
--- definitions that the contracts of `layout`, `header` and `opening` cite. Assumes nothing.
+-- What stands below opening: the rules for a host's size, a sector size, a data area and a layout, a magic and its versions, the judgement of
+-- one candidate, and the key bytes. `multiple`, `hostSizeRule`, `sectorSizeRule`, `dataAreaRule`, `sound`, `magicNumber`, `versionRule`, `judge`
+-- and `KeyBytes` are the definitions that the contracts of `layout`, `header` and `opening` cite. Assumes nothing.
 use Prim.Native.Nat.{ℕ, _+_, _*_, _≤_}
 use mathlib.Core.{Path._≡_, Logic.{_⊎_, _↔_}, Bool.true, List.{List, [], _++_}}
 use lib.ListN.{length}
-use Rattle.layout.specs.Rules.{standard, hidden, hostSizeRule, dataAreaRule, sound}
+use Rattle.layout.specs.Rules.{standard, hidden, multiple, hostSizeRule, sectorSizeRule, dataAreaRule, sound}
 use Rattle.layout.specs.declared.{Layout.Layout, Opened.the-variants.{Accepted, Refused}}
 use Rattle.header.specs.Header.{magicNumber, versionRule, judge}
 use Rattle.opening.specs.Opening.{KeyBytes}
-use Rattle.guarantees.specs.Header.{bytesAt, veraLetters, trueLetters, KnownKind, DataArea, IsHeader, Line, number, Keeps, FirstBroken, Tells}
+use Rattle.guarantees.specs.Header.{bytesAt, veraLetters, trueLetters, Multiple, SectorSize, KnownKind}
+use Rattle.guarantees.specs.Header.{DataArea, IsHeader, Line, number, Keeps, FirstBroken, Tells}
 use Rattle.guarantees.specs.{Opening.HostSize, SectorMap.Sound}
 
 -- each rule is met exactly where it holds, and the kinds have these numbers
@@ -21,8 +22,11 @@ pub record KeepsRules : Type 0 where
   pub otherMagics : (bytes : List ℕ) → ((bytes ≡ veraLetters) ⊎ (bytes ≡ trueLetters) → ⊥) → magicNumber bytes ≡ 2
   pub veraVersions : (version : ℕ) → (versionRule 0 version ≡ true) ↔ ((2 ≤ version) × (version ≤ 5))
   pub trueVersions : (magic version : ℕ) → (magic ≡ 0 → ⊥) → (versionRule magic version ≡ true) ↔ ((version ≡ 4) ⊎ (version ≡ 5))
+  pub multiples : (number of : ℕ) → (multiple number of ≡ true) ↔ Multiple number of
   pub hostSizes : (hostSize : ℕ) → (hostSizeRule hostSize ≡ true) ↔ HostSize hostSize
-  pub dataAreas : (layout : Layout) → (dataAreaRule layout ≡ true) ↔ (KnownKind (layout .kind) × DataArea layout (layout .«data_size»))
+  pub sectorSizes : (size : ℕ) → (sectorSizeRule size ≡ true) ↔ SectorSize size
+  pub dataAreas : (layout : Layout)
+      → (dataAreaRule layout ≡ true) ↔ (KnownKind (layout .kind) × SectorSize (layout .«sector_size») × DataArea layout (layout .«data_size»))
   pub layouts : (layout : Layout) → (sound layout ≡ true) ↔ Sound layout
 
 -- the judgement of one candidate by itself, for any bytes, any kind, any host size and any index

@@ -14,6 +14,7 @@ pub mod Opening
 pub mod Parts
 pub mod Placing
 pub mod ReferenceModel
+pub mod SameAt512
 pub mod SectorMap
 pub mod Table
 pub mod Views

@@ -1,10 +1,10 @@
 -- What views, reads and writes are made of, each by itself: an acceptance, the soundness of what is protected, its user sectors, a pair of
--- layouts, the lock after a write, an extent's first byte, and the copy. The definitions are those that the contracts of `protection`,
--- `judgement` and `copy` cite. Assumes nothing.
+-- layouts, an extent of whole sectors, the lock after a write, an extent's first byte, and the copy. The definitions are those that the
+-- contracts of `protection`, `judgement` and `copy` cite. Assumes nothing.
 use Prim.Native.Nat.{ℕ, _+_, _*_, _<_, _≤_}
 use mathlib.Core.{Path._≡_, Logic._↔_, Bool.{Bool, true, false}, List.{List, _++_}}
 use lib.ListN.{length, drop}
-use Rattle.judgement.specs.Judging.{lockedAfter}
+use Rattle.judgement.specs.Judging.{alignmentRule, lockedAfter}
 use Rattle.judgement.specs.Offsets.{placedBy}
 use Rattle.answers.specs.Answers.{isAccepted, answerRefusal}
 use Rattle.answers.specs.declared.{Answer.{Answer, the-variants.{Accepted, Refused, RefusedAt}}, Numbered.the-variants.Number}
@@ -15,7 +15,7 @@ use Rattle.protection.specs.Protection.{soundProtection, protectedExtent, paire
 use Rattle.protection.specs.declared.Protection.{Protection}
 use Rattle.protection.specs.declared.Pairing.the-variants as pairing
 use Rattle.sector_map.specs.SectorMap.{hostSector}
-use Rattle.guarantees.specs.{Extents.Within, ReferenceModel.{inRange, lockLeft}, SectorMap.{Sound, InArea}}
+use Rattle.guarantees.specs.{Extents.Within, Header.Multiple, ReferenceModel.{inRange, lockLeft}, SectorMap.{Sound, InArea}}
 use Rattle.guarantees.specs.Views.{area, SoundRange, Nested}
 
 -- the claim, for any two layouts and any protection
@@ -35,6 +35,9 @@ pub record KeepsParts (layout hiddenLayout : Layout) (protection : Protection) :
   pub pairNests : Sound layout → Sound hiddenLayout → Nested layout hiddenLayout → paired layout hiddenLayout ≡ pairing.Nested
   pub pairUnsound : (Sound layout × Sound hiddenLayout → ⊥) → paired layout hiddenLayout ≡ pairing.Refused 11
   pub pairApart : Sound layout → Sound hiddenLayout → (Nested layout hiddenLayout → ⊥) → paired layout hiddenLayout ≡ pairing.Refused 12
+  -- an extent is of whole sectors of the disk exactly where the bytes before it in the volume, and its own, are multiples of Z
+  pub aligned : Sound layout → (first count : ℕ)
+      → (alignmentRule layout first count ≡ true) ↔ (Multiple (first * 512) (layout .«sector_size») × Multiple (count * 512) (layout .«sector_size»))
   -- 18 closes the lock
   pub locks : (locked : Bool) (answer : Answer) → lockedAfter locked (answerRefusal answer) ≡ lockLeft answer locked
   -- an extent's first byte: O and 512 for each user sector before it; a refusal gives none

@@ -1,5 +1,5 @@
 -- Demand 2, second half (RULES.md, Sector map): a volume's user sectors match the host sectors of its data area one to one, outside every
--- header area, and each has its tweak.
+-- header area, and each has its tweak. Sectors are of 512 bytes, whatever the disk's own have.
 -- `hostSector`, `userSector`, `tweakNumber` and `tweakOf` are the definitions that the contracts of `sector_map` cite. Assumes nothing.
 use Prim.Native.Nat.{ℕ, _+_, _-_, _*_, _/_, _≤_, _<_}
 use mathlib.Core.{Path._≡_, List.List}
@@ -9,11 +9,12 @@ use Rattle.layout.specs.declared.{Layout.Layout, Opened.the-variants.Accepted}
 use Rattle.opening.specs.Opening.{opened}
 use Rattle.sector_map.specs.SectorMap.{sectorCount, hostSector, userSector, tweakNumber, tweakOf}
 use Rattle.answers.specs.declared.Numbered.the-variants.{Number, Refused}
-use Rattle.guarantees.specs.{Header.{KnownKind, DataArea}, Opening.HostSize}
+use Rattle.guarantees.specs.{Header.{SectorSize, KnownKind, DataArea}, Opening.HostSize}
 
--- a layout is sound: its host size is allowed, its kind is known, and its data area keeps the last header line
+-- a layout is sound: its host size and its sector size are allowed, its kind is known, and its data area keeps the last header line
 pub record Sound (layout : Layout) : Type 0 where
   pub size : HostSize (layout .«host_size»)
+  pub sectors : SectorSize (layout .«sector_size»)
   pub known : KnownKind (layout .kind)
   pub area : DataArea layout (layout .«data_size»)
 

@@ -1,7 +1,7 @@
 -- Reads and writes on a sound view (RULES.md, Reads and writes): calls, the table of refusals, and the host sectors that a call covers by the
 -- sector map. A sector in the way is found by a walk over the call's own sectors, through that map. Assumes nothing.
-use Prim.Native.Nat.{ℕ, zero, suc, _+_, _*_, _/_}
-use mathlib.Core.{Bool.{Bool, false, not, cond}, List.{List, [], _∷_}}
+use Prim.Native.Nat.{ℕ, zero, suc, _+_, _*_, _/_, _%_}
+use mathlib.Core.{Bool.{Bool, false, not, _&&_, cond}, List.{List, [], _∷_}}
 use lib.{Dec.{leb, eqb}, ListN.length}
 use Rattle.answers.specs.Answers.{Naming, unnamed, named}
 use Rattle.answers.specs.declared.{Answer.{Answer, the-variants.{Accepted, Refused, RefusedAt}}, Numbered.Numbered}
@@ -39,6 +39,10 @@ isPast (numbered.Refused number) = eqb number 16
 unfoldable pub firstPast : Layout → ℕ → ℕ → ℕ
 firstPast layout first count = foundOr first (firstOf (λ user. isPast (hostSector layout user)) first count)
 
+-- a first sector or a count is of whole sectors of the disk: a multiple of Z/512
+unfoldable pub isWhole : Layout → ℕ → Bool
+isWhole layout number = eqb (number % (layout .«sector_size» / 512)) 0
+
 -- one check: its refusal where it fails, else what the later ones say
 abbrev pub check : Answer → Bool → Answer → Answer
 check refused passes later = cond passes later refused
@@ -59,8 +63,9 @@ tabled layout locked touched imageSize call =
     check (Refused 13) (eqb imageSize (layout .«host_size»))
     (check (Refused 14) (leb (call .count) 128)
     (check (Refused 15) (eqb (length (call .buffer)) (call .count * 512))
+    (check (Refused 20) (isWhole layout (call .first) && isWhole layout (call .count))
     (check (RefusedAt 16 (firstPast layout (call .first) (call .count))) (leb (call .first + call .count) (layout .«data_size» / 512))
-    (later (call .operation) locked touched))))
+    (later (call .operation) locked touched)))))
 
 -- a host sector that the map gives, before others
 unfoldable pub withHost : Numbered → List ℕ → List ℕ

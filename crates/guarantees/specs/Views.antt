@@ -8,7 +8,7 @@ use Rattle.making.specs.Views.{plainView, protectedView}
 use Rattle.protection.specs.declared.Protection.{Protection, the-variants.{Unprotected, Protected}}
 use Rattle.view.specs.declared.View.{View}
 use Rattle.making.specs.declared.Viewed.the-variants.{Made, Refused}
-use Rattle.guarantees.specs.SectorMap.{Sound}
+use Rattle.guarantees.specs.{Header.Multiple, SectorMap.Sound}
 
 -- a volume's view that protects nothing
 abbrev pub plain : Layout → Bool → View
@@ -41,11 +41,12 @@ pub record SoundView (view : View) : Type 0 where
   pub layoutSound : Sound (view .layout)
   pub rangeSound : SoundRange (view .layout) (view .protection)
 
--- two layouts nest: a standard volume, and a hidden one on the same host whose data area lies in the first's
+-- two layouts nest: a standard volume, and a hidden one on the same host, with sectors of one size, whose data area lies in the first's
 pub record Nested (outer hiddenLayout : Layout) : Type 0 where
   pub firstStandard : outer .kind ≡ standard
   pub secondHidden : hiddenLayout .kind ≡ hidden
   pub sameHost : outer .«host_size» ≡ hiddenLayout .«host_size»
+  pub sameSectors : outer .«sector_size» ≡ hiddenLayout .«sector_size»
   pub starts : outer .«data_start» ≤ hiddenLayout .«data_start»
   pub ends : hiddenLayout .«data_start» + hiddenLayout .«data_size» ≤ outer .«data_start» + outer .«data_size»
 
@@ -61,3 +62,7 @@ pub record MakesViews (outer hiddenLayout : Layout) : Type 0 where
   -- what comes out is sound, whatever its lock later
   pub plainSound : (locked : Bool) → Sound outer → SoundView (plain outer locked)
   pub guardedSound : (locked : Bool) → Sound outer → Sound hiddenLayout → Nested outer hiddenLayout → SoundView (protecting outer hiddenLayout locked)
+  -- .. and its protected range is of whole sectors of the disk, as a made-up one need not be
+  pub guardedWhole : Sound hiddenLayout → Nested outer hiddenLayout
+      → Multiple (hiddenLayout .«data_start») (outer .«sector_size»)
+      × Multiple (hiddenLayout .«data_start» + hiddenLayout .«data_size») (outer .«sector_size»)

@@ -12,7 +12,7 @@ use Rattle.crc32.specs.Crc32.{crc32}
 use Rattle.new_header.specs.NewHeader.{newLengthsRule, headerOver}
 use Rattle.header_writing.specs.HeaderWriting.{askedLayout, headerAnswer, headerLeft}
 use Rattle.header_writing.specs.declared.Written.{Written, the-variants.{Done, Refused}}
-use Rattle.guarantees.specs.Header.{bytesAt, veraLetters, trueLetters, Supported, DataArea}
+use Rattle.guarantees.specs.Header.{bytesAt, veraLetters, trueLetters, Supported, SectorSize, DataArea}
 use Rattle.guarantees.specs.{Numbers.AllZero, Opening.{HostSize, kindOf}}
 
 -- what the writer is asked for
@@ -24,6 +24,7 @@ pub record Request : Type 0 where
   pub hostSize : ℕ
   pub dataStart : ℕ
   pub dataSize : ℕ
+  pub sectorSize : ℕ
   pub salt : List ℕ
   pub keys : List ℕ
 
@@ -33,17 +34,20 @@ pub record Passable (r : Request) : Type 0 where
   pub saltBytes : Bytes (r .salt)
   pub keyBytes : Bytes (r .keys)
 
+-- what is asked for as a layout, as the contract has it
+abbrev pub layoutAsked : Request → Layout
+layoutAsked r =
+    askedLayout (r .magic) (r .version) (r .minProgramVersion) (r .code) (r .hostSize) (r .dataStart) (r .dataSize) (r .sectorSize)
+
 -- the answer of the contract, for the bytes that the header goes over
 abbrev pub answerTo : Request → List ℕ → Written
 answerTo r before =
-    headerAnswer (r .code) (askedLayout (r .magic) (r .version) (r .minProgramVersion) (r .code) (r .hostSize) (r .dataStart) (r .dataSize))
-    (length (r .salt)) (length (r .keys)) (length before)
+    headerAnswer (r .code) (layoutAsked r) (length (r .salt)) (length (r .keys)) (length before)
 
 -- .. and what it leaves of them
 abbrev pub leftBy : Request → List ℕ → List ℕ
 leftBy r before =
-    headerLeft (answerTo r before)
-    (askedLayout (r .magic) (r .version) (r .minProgramVersion) (r .code) (r .hostSize) (r .dataStart) (r .dataSize)) (r .salt) (r .keys) before
+    headerLeft (answerTo r before) (layoutAsked r) (r .salt) (r .keys) before
 
 -- the layout that the header is to tell, with the number of its magic
 abbrev pub layoutFor : ℕ → Request → Layout
@@ -57,11 +61,12 @@ layoutFor magic r =
       «data_start» = r .dataStart;
       «data_size» = r .dataSize;
       candidate = 0;
+      «sector_size» = r .sectorSize;
     }
 
 -- the checks, in their order
 pub data Check : Type 0 where
-  rightLengths knownMagic knownCode allowedHost supportedVersion allowedArea : Check
+  rightLengths knownMagic knownCode allowedHost supportedVersion allowedSectors allowedArea : Check
 
 -- the place of a check in that order
 unfoldable pub place : Check → ℕ
@@ -70,7 +75,8 @@ place knownMagic = 1
 place knownCode = 2
 place allowedHost = 3
 place supportedVersion = 4
-place allowedArea = 5
+place allowedSectors = 5
+place allowedArea = 6
 
 -- the refusal number of a check
 unfoldable pub refusalOf : Check → ℕ
@@ -79,6 +85,7 @@ refusalOf knownMagic = 19
 refusalOf knownCode = 2
 refusalOf allowedHost = 3
 refusalOf supportedVersion = 5
+refusalOf allowedSectors = 8
 refusalOf allowedArea = 10
 
 -- what it is to pass a check, with so many bytes for the header; a data area has nothing to do with the magic
@@ -88,6 +95,7 @@ Passes knownMagic r size = (r .magic ≡ veraLetters) ⊎ (r .magic ≡ trueLett
 Passes knownCode r size = r .code ≤ 3
 Passes allowedHost r size = HostSize (r .hostSize)
 Passes supportedVersion r size = Supported (r .magic) (r .version)
+Passes allowedSectors r size = SectorSize (r .sectorSize)
 Passes allowedArea r size = DataArea (layoutFor 0 r) (r .dataSize)
 
 -- the first check that is not passed: those before it are
@@ -115,8 +123,8 @@ pub record ReadsBack (r : Request) (before : List ℕ) : Type 0 where
   pub saltFirst : answerTo r before ≡ Done → bytesAt 0 64 (leftBy r before) ≡ r .salt
   pub unusedZero : answerTo r before ≡ Done → AllZero (bytesAt 76 16 (leftBy r before)) × AllZero (bytesAt 132 120 (leftBy r before))
 
--- what stands in a new header, by its offsets: H is V for a hidden volume and else 0, E is V, no flag is set, Z is 512, and the reserved bytes
--- are zero; the second checksum takes in the first
+-- what stands in a new header, by its offsets: H is V for a hidden volume and else 0, E is V, no flag is set, and the reserved bytes are
+-- zero; the second checksum takes in the first
 pub record Lays (layout : Layout) (salt keys h : List ℕ) : Type 0 where
   pub whole : length h ≡ 512
   pub saltLaid : bytesAt 0 64 h ≡ salt
@@ -132,7 +140,7 @@ pub record Lays (layout : Layout) (salt keys h : List ℕ) : Type 0 where
   pub dataStartLaid : bytesAt 108 8 h ≡ bigEndianBytes 8 (layout .«data_start»)
   pub encryptedSizeLaid : bytesAt 116 8 h ≡ bigEndianBytes 8 (layout .«data_size»)
   pub flagsLaid : AllZero (bytesAt 124 4 h)
-  pub sectorSizeLaid : bytesAt 128 4 h ≡ 0 ∷ 0 ∷ 2 ∷ 0 ∷ []
+  pub sectorSizeLaid : bytesAt 128 4 h ≡ bigEndianBytes 4 (layout .«sector_size»)
   pub moreReservedLaid : AllZero (bytesAt 132 120 h)
   pub headerChecksumLaid : bytesAt 252 4 h ≡ bigEndianBytes 4 (crc32 (bytesAt 64 188 h))
   pub keysLaid : bytesAt 256 256 h ≡ keys
@@ -155,6 +163,7 @@ takenApart magic h code layout =
       hostSize = layout .«host_size»;
       dataStart = layout .«data_start»;
       dataSize = layout .«data_size»;
+      sectorSize = layout .«sector_size»;
       salt = bytesAt 0 64 h;
       keys = bytesAt 256 256 h;
     }

@@ -4,9 +4,9 @@ use Prim.Native.Nat.{ℕ}
 use native.Mathlib.Omega.{arith}
 use mathlib.Core.{Path.{_≡_, refl, ap}, Bool.{Bool, true, false}, List.List}
 use Rattle.answers.specs.Answers.{line}
-use Rattle.layout.specs.declared.{Layout.Layout, Opened.{Opened, the-variants.{Accepted, Refused}}}
+use Rattle.layout.specs.{Rules.sectorSizeRule, declared.{Layout.Layout, Opened.{Opened, the-variants.{Accepted, Refused}}}}
 use Rattle.header.specs.Header.{magicOf, fieldsOf, isHeader, acceptedLayout, judge}
-use Rattle.header.specs.Header.{versionRule, reservedRule, flagsRule, sectorSizeRule, hiddenSizeRule, areaRule}
+use Rattle.header.specs.Header.{versionRule, reservedRule, flagsRule, hiddenSizeRule, areaRule}
 
 -- a refusal is no acceptance
 pub refused-accepted : (number : ℕ) (layout : Layout) → Refused number ≡ Accepted layout → ⊥

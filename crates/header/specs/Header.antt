@@ -7,7 +7,7 @@ use Rattle.fields.specs.{Bytes.{fieldPart, sameBytes, allZero}, declared.Field.
 use Rattle.numbers.specs.Numbers.{bigEndian}
 use Rattle.crc32.specs.Crc32.{crc32}
 use Rattle.answers.specs.Answers.{line}
-use Rattle.layout.specs.{Rules.{standard, hidden, dataAreaRule}, declared.{Layout.Layout, Opened.Opened}}
+use Rattle.layout.specs.{Rules.{standard, hidden, sectorSizeRule, dataAreaRule}, declared.{Layout.Layout, Opened.Opened}}
 use Rattle.layout.specs.declared.Opened.the-variants.{Accepted, Refused}
 use Rattle.header.specs.declared.Fields.{Fields}
 
@@ -127,10 +127,6 @@ reservedRule magic flags h =
 unfoldable pub flagsRule : ℕ → Bool
 flagsRule flags = eqb (flags % 4) 0
 
--- line 8, the sector size Z is 512
-unfoldable pub sectorSizeRule : ℕ → Bool
-sectorSizeRule size = eqb size 512
-
 -- line 9, the hidden size H: 0 for a standard volume; for a hidden one not 0, and V
 unfoldable pub hiddenSizeRule : ℕ → ℕ → ℕ → Bool
 hiddenSizeRule kind hiddenSize size =
@@ -148,13 +144,15 @@ acceptedLayout kind hostSize index magic f =
       «data_start» = f .«data_start»;
       «data_size» = f .«data_size»;
       candidate = index;
+      «sector_size» = f .«sector_size»;
     }
 
 -- line 10, the data area of that layout, with the encrypted size E equal to V
 unfoldable pub areaRule : Layout → ℕ → Bool
 areaRule layout encryptedSize = eqb encryptedSize (layout .«data_size») && dataAreaRule layout
 
--- the judgement of one candidate: 4 where it is no header, else by the first line that it breaks, and its layout where it keeps them all
+-- the judgement of one candidate: 4 where it is no header, else by the first line that it breaks, and its layout where it keeps them all;
+-- line 8 is the layout's own rule for Z
 unfoldable pub judge : ℕ → ℕ → ℕ → List ℕ → Opened
 judge kind hostSize index h =
     let magic = magicOf h in

@@ -137,7 +137,7 @@ fn first_broken(candidate: &[u8], magic: u64, kind: u64, host_size: u64, index: 
     if fields.flags % 4 != 0 {
         return Opened::Refused(7);
     }
-    if fields.sector_size != 512 {
+    if !layout::is_sector_size(fields.sector_size) {
         return Opened::Refused(8);
     }
     if !keeps_hidden_size(kind, fields.hidden_size, fields.data_size) {
@@ -215,5 +215,6 @@ fn accepted_layout(fields: Fields, magic: u64, kind: u64, host_size: u64, index:
         data_start: fields.data_start,
         data_size: fields.data_size,
         candidate: index,
+        sector_size: fields.sector_size,
     }
 }

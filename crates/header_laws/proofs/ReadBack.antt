@@ -1,5 +1,5 @@
 -- A header with these parts is read back: its magic, its fields and its checksums, and the judgement accepts it. Assumes nothing.
-use Prim.Native.Nat.{ℕ, zero, suc, _%_, _^_, _≤_, _<_}
+use Prim.Native.Nat.{ℕ, zero, suc, _^_, _≤_, _<_}
 use native.Mathlib.Omega.{arith}
 use native.Mathlib.Nat.{mod-eq-of-lt}
 use mathlib.Core.{Path.{_≡_, refl, sym, ap, _∙_}, Logic.{_⊎_, inl, inr, ⊎-elim}, Bool.{Bool, true, false, _&&_, cond}, List.List}
@@ -12,11 +12,11 @@ use Rattle.numbers.specs.Numbers.{bigEndian, bigEndianBytes}
 use Rattle.numbers.proofs.WrittenLaws.{big-endian-bytes-spell}
 use Rattle.crc32.specs.Crc32.{crc32}
 use Rattle.crc32.proofs.BoundLaws.{crc32-lt}
-use Rattle.layout.specs.Rules.{standard, hidden, hostSizeRule, dataAreaRule, placeRule, sectorsRule}
+use Rattle.layout.specs.Rules.{standard, hidden, multiple, hostSizeRule, sectorSizeRule, dataAreaRule, placeRule, sectorsRule}
 use Rattle.layout.specs.declared.{Layout.Layout, Opened.the-variants.Accepted}
-use Rattle.layout.proofs.RuleLaws.{and-true-left, and-true-right, host-size-most, place-ends}
+use Rattle.layout.proofs.{RuleLaws.{and-true-left, and-true-right, host-size-most, place-ends, size-least}, SectorSizeLaws.sector-size-most}
 use Rattle.header.specs.Header.{checkedField, magicNumber, magicOf, fieldsOf, checksumsMatch}
-use Rattle.header.specs.Header.{isHeader, versionRule, reservedRule, flagsRule, sectorSizeRule, hiddenSizeRule, acceptedLayout, areaRule, judge}
+use Rattle.header.specs.Header.{isHeader, versionRule, reservedRule, flagsRule, hiddenSizeRule, acceptedLayout, areaRule, judge}
 use Rattle.header.specs.declared.Fields.{Fields}
 use Rattle.new_header.specs.NewHeader.{magicBytes, newFields}
 use Rattle.header_laws.proofs.Parts.{Parts}
@@ -108,19 +108,11 @@ version-small magic version kept =
     let least = cond (eqb magic 0) (leb 2 version) (leb 4 version) in
     omega (arith, leb-true version 5 (and-true-left (leb version 5) least kept))
 
-module _ (layout : Layout) (host : hostSizeRule (layout .«host_size») ≡ true) (area : dataAreaRule layout ≡ true) where
+module _ (layout : Layout) (host : hostSizeRule (layout .«host_size») ≡ true) (sectors : sectorSizeRule (layout .«sector_size») ≡ true)
+    (area : dataAreaRule layout ≡ true) where
   place : placeRule layout ≡ true
   unfolding dataAreaRule
   place = and-true-right (sectorsRule layout) (placeRule layout) area
-
-  size-least : 512 ≤ layout .«data_size»
-  unfolding dataAreaRule sectorsRule
-  size-least =
-      let size = layout .«data_size» in
-      let first = leb 512 size && eqb (size % 512) 0 in
-      leb-true 512 size
-      (and-true-left (leb 512 size) (eqb (size % 512) 0)
-      (and-true-left first (eqb (layout .«data_start» % 512) 0) (and-true-left (sectorsRule layout) (placeRule layout) area)))
 
   hidden-size-most : newFields layout .«hidden_size» ≤ layout .«data_size»
   unfolding newFields
@@ -143,7 +135,7 @@ module _ (layout : Layout) (host : hostSizeRule (layout .«host_size») ≡ true
         dataStartSmall = omega (arith, ends, most);
         encryptedSizeSmall = omega (arith, ends, most);
         flagsSmall = omega arith;
-        sectorSizeSmall = omega arith;
+        sectorSizeSmall = omega (arith, sector-size-most (layout .«sector_size») sectors);
       }
 
   known-kind : (a b c d : Bool) → cond a c (b && d) ≡ true → (a ≡ true) ⊎ (b ≡ true)
@@ -154,20 +146,20 @@ module _ (layout : Layout) (host : hostSizeRule (layout .«host_size») ≡ true
   hidden-size-kept : hiddenSizeRule (layout .kind) (newFields layout .«hidden_size») (layout .«data_size») ≡ true
   unfolding placeRule newFields
   hidden-size-kept =
-      hidden-size-made (layout .kind) (layout .«data_size») size-least
+      hidden-size-made (layout .kind) (layout .«data_size») (size-least layout area)
       (known-kind (eqb (layout .kind) standard) (eqb (layout .kind) hidden) _ _ place)
 
   area-kept : (magic : ℕ)
       → areaRule (acceptedLayout (layout .kind) (layout .«host_size») (layout .candidate) magic (newFields layout)) (newFields layout .«encrypted_size»)
       ≡ true
-  unfolding areaRule acceptedLayout newFields dataAreaRule sectorsRule placeRule
+  unfolding areaRule acceptedLayout newFields dataAreaRule sectorsRule multiple placeRule
   area-kept magic = simp (eq-eqb (layout .«data_size») (layout .«data_size») refl) area
 
   -- the judgement of a header with the parts of a new one
   pub judged-back : {salt keys h : List ℕ} → Parts (newFields layout) (layout .magic) salt keys h → Bytes keys → Bytes h → layout .magic ≤ 1
       → layout .«min_program_version» < 256 ^ 2 → versionRule (layout .magic) (layout .version) ≡ true
       → judge (layout .kind) (layout .«host_size») (layout .candidate) h ≡ Accepted layout
-  unfolding judge flagsRule sectorSizeRule newFields acceptedLayout
+  unfolding judge flagsRule newFields acceptedLayout
   judged-back {h = h} p smallKeys small known program supported =
       let fields = fields-back p (new-fields-small (version-small (layout .magic) (layout .version) supported) program) in
       let magic = magic-back p known in
@@ -175,7 +167,7 @@ module _ (layout : Layout) (host : hostSizeRule (layout .«host_size») ≡ true
       let version : versionRule (magicOf h) (fieldsOf h .version) ≡ true = rw (magic, fields) supported in
       let reserved : reservedRule (magicOf h) (fieldsOf h .flags) h ≡ true = rw fields (reserved-back p (magicOf h)) in
       let flags : flagsRule (fieldsOf h .flags) ≡ true = rw fields refl in
-      let sectorSize : sectorSizeRule (fieldsOf h .«sector_size») ≡ true = rw fields refl in
+      let sectorSize : sectorSizeRule (fieldsOf h .«sector_size») ≡ true = rw fields sectors in
       let hiddenSize : hiddenSizeRule (layout .kind) (fieldsOf h .«hidden_size») (fieldsOf h .«data_size») ≡ true = rw fields hidden-size-kept in
       let dataArea : areaRule told (fieldsOf h .«encrypted_size») ≡ true = rw (magic, fields) (area-kept (layout .magic)) in
       let same : told ≡ layout = rw (magic, fields) refl in

@@ -2,11 +2,11 @@
 use Prim.Native.Nat.{ℕ, zero, suc, _+_, _/_, _%_, _≤_}
 use native.Mathlib.Omega.{arith}
 use mathlib.Core.{Path.{_≡_, refl, sym, ap, _∙_}, Bool.{Bool, true, false, _&&_, not, cond, true≢false}, List.{List, [], _∷_}}
-use lib.{Dec.{leb, eqb}, ListN.{length, take, drop, replicate, length-take, length-drop}}
+use lib.{Dec.{leb, eqb}, ListN.{length, drop, replicate, length-take, length-drop}}
 use borrow.Author.Tests.{eqb-true, ne-eqb}
 use Rattle.bits.specs.Bits.{Bytes}
 use Rattle.bits.proofs.BytesLaws.{bytes-take, bytes-drop, bytes-getD}
-use Rattle.fields.specs.{Bytes.{part, fieldPart, sameBytes, allZero}, declared.Field.Field}
+use Rattle.fields.specs.{Bytes.{fieldPart, sameBytes, allZero}, declared.Field.Field}
 use Rattle.fields.proofs.{BytesLaws.{same-bytes-true, all-zero-replicate}, PartLaws.{SameParts, same-parts, same-whole}}
 use Rattle.numbers.specs.Numbers.{bigEndian, bigEndianBytes}
 use Rattle.numbers.proofs.WrittenLaws.{big-endian-bytes-again}
@@ -16,7 +16,7 @@ use Rattle.layout.proofs.RuleLaws.{and-true-left, and-true-right}
 use Rattle.header.specs.Header.{saltField, magicField, versionField, minProgramVersionField, keyChecksumField, reservedField, hiddenSizeField}
 use Rattle.header.specs.Header.{dataSizeField, dataStartField, encryptedSizeField, flagsField, sectorSizeField, moreReservedField}
 use Rattle.header.specs.Header.{headerChecksumField, keysField, checkedField, vera, veraMagic, trueMagic, magicNumber, magicOf, fieldsOf}
-use Rattle.header.specs.Header.{checksumsMatch, isHeader, reservedRule, flagsRule, sectorSizeRule, hiddenSizeRule, acceptedLayout, areaRule}
+use Rattle.header.specs.Header.{checksumsMatch, isHeader, reservedRule, flagsRule, hiddenSizeRule, acceptedLayout, areaRule}
 use Rattle.header.proofs.JudgeLaws.{Kept}
 use Rattle.new_header.specs.NewHeader.{magicBytes, newFields, newHeader}
 use Rattle.header_laws.proofs.Parts.{Parts, new-header-parts}
@@ -125,11 +125,10 @@ module _ (kind hostSize index : ℕ) (h : List ℕ) (layout : Layout) (kept : Ke
   -- the fields from the magic on, up to the header's checksum
   checked-again : fieldPart reservedField h ≡ replicate 16 0 → fieldPart moreReservedField h ≡ replicate 120 0
       → SameParts written h 64 (4 ∷ 2 ∷ 2 ∷ 4 ∷ 16 ∷ 8 ∷ 8 ∷ 8 ∷ 8 ∷ 4 ∷ 4 ∷ 120 ∷ [])
-  unfolding acceptedLayout newFields fieldsOf magicOf sectorSizeRule
+  unfolding acceptedLayout newFields fieldsOf magicOf
   checked-again zeros more =
       let magic = and-true-right (eqb (length h) 512) (leb (magicOf h) 1) known in
-      let hiddenSize = hidden-again kind (fieldsOf h .«hidden_size») (fieldsOf h .«data_size») (kept .hiddenSize) in
-      let sectorSize = sym (eqb-true (fieldsOf h .«sector_size») 512 (kept .sectorSize)) in (
+      let hiddenSize = hidden-again kind (fieldsOf h .«hidden_size») (fieldsOf h .«data_size») (kept .hiddenSize) in (
         parts .magicPart ∙ magic-again (fieldPart magicField h) magic,
         (
           parts .versionPart ∙ number-again versionField (fieldsOf h .version) (omega arith) refl,
@@ -150,7 +149,7 @@ module _ (kind hostSize index : ℕ) (h : List ℕ) (layout : Layout) (kept : Ke
                         (
                           parts .flagsPart ∙ number-again flagsField 0 (omega arith) (sym no-flags),
                           (
-                            parts .sectorSizePart ∙ number-again sectorSizeField 512 (omega arith) sectorSize,
+                            parts .sectorSizePart ∙ number-again sectorSizeField (fieldsOf h .«sector_size») (omega arith) refl,
                             (parts .moreReservedPart ∙ sym more, tt),
                           ),
                         ),

@@ -3,7 +3,7 @@ use Prim.Native.Nat.{ℕ}
 use mathlib.Core.{Path.{_≡_, refl, sym, subst}, Bool.{Bool, true, false}}
 use lib.Dec.{leb}
 use Rattle.answers.specs.Answers.{line}
-use Rattle.layout.specs.{Rules.{hostSizeRule, dataAreaRule}, declared.Layout.Layout}
+use Rattle.layout.specs.{Rules.{hostSizeRule, sectorSizeRule, dataAreaRule}, declared.Layout.Layout}
 use Rattle.locations.specs.Locations.{codeRule}
 use Rattle.header.specs.Header.{truecrypt, versionRule}
 use Rattle.new_header.specs.NewHeader.{newLengthsRule}
@@ -30,6 +30,7 @@ module _ (code : ℕ) (layout : Layout) (saltSize keysSize headerSize : ℕ) whe
     pub knownCode : codeRule code ≡ true
     pub host : hostSizeRule (layout .«host_size») ≡ true
     pub supported : versionRule (layout .magic) (layout .version) ≡ true
+    pub sectors : sectorSizeRule (layout .«sector_size») ≡ true
     pub area : dataAreaRule layout ≡ true
 
   pub done-passed : headerAnswer code layout saltSize keysSize headerSize ≡ Done → Passed
@@ -40,8 +41,17 @@ module _ (code : ℕ) (layout : Layout) (saltSize keysSize headerSize : ℕ) whe
       let p2 = line-done 2 (codeRule code) _ (p19 .1) in
       let p3 = line-done 3 (hostSizeRule (layout .«host_size»)) _ (p2 .1) in
       let p5 = line-done 5 (versionRule (layout .magic) (layout .version)) _ (p3 .1) in
-      let p10 = line-done 10 (dataAreaRule layout) Done (p5 .1) in
-      record { lengths = p1 .0; knownMagic = p19 .0; knownCode = p2 .0; host = p3 .0; supported = p5 .0; area = p10 .0 }
+      let p8 = line-done 8 (sectorSizeRule (layout .«sector_size»)) _ (p5 .1) in
+      let p10 = line-done 10 (dataAreaRule layout) Done (p8 .1) in
+      record {
+        lengths = p1 .0;
+        knownMagic = p19 .0;
+        knownCode = p2 .0;
+        host = p3 .0;
+        supported = p5 .0;
+        sectors = p8 .0;
+        area = p10 .0;
+      }
 
   pub done-lengths : headerAnswer code layout saltSize keysSize headerSize ≡ Done → (saltSize ≡ 64) × ((keysSize ≡ 256) × (headerSize ≡ 512))
   done-lengths e = lengths-right saltSize keysSize headerSize (done-passed e .lengths)

@@ -4,7 +4,7 @@ use Prim.Native.Nat.{ℕ}
 use mathlib.Core.List.{List}
 use lib.Dec.{leb}
 use Rattle.answers.specs.Answers.{line}
-use Rattle.layout.specs.{Rules.{hostSizeRule, dataAreaRule}, declared.Layout.Layout}
+use Rattle.layout.specs.{Rules.{hostSizeRule, sectorSizeRule, dataAreaRule}, declared.Layout.Layout}
 use Rattle.locations.specs.Locations.{codeRule, locationOf}
 use Rattle.header.specs.Header.{truecrypt, magicNumber, versionRule}
 use Rattle.new_header.specs.NewHeader.{newLengthsRule, newHeader}
@@ -16,8 +16,8 @@ writtenRefusal Done = 0
 writtenRefusal (Refused number) = number
 
 -- what the header is to tell, as the layout of a first candidate; the kind is that of the code's location
-unfoldable pub askedLayout : List ℕ → ℕ → ℕ → ℕ → ℕ → ℕ → ℕ → Layout
-askedLayout magic version minProgramVersion code hostSize dataStart dataSize =
+unfoldable pub askedLayout : List ℕ → ℕ → ℕ → ℕ → ℕ → ℕ → ℕ → ℕ → Layout
+askedLayout magic version minProgramVersion code hostSize dataStart dataSize sectorSize =
     record {
       «host_size» = hostSize;
       kind = locationOf code .kind;
@@ -27,6 +27,7 @@ askedLayout magic version minProgramVersion code hostSize dataStart dataSize =
       «data_start» = dataStart;
       «data_size» = dataSize;
       candidate = 0;
+      «sector_size» = sectorSize;
     }
 
 -- the answer: 1 for the lengths, 19 for the magic, and then the reader's own rules, by the reader's numbers
@@ -37,7 +38,8 @@ headerAnswer code layout saltSize keysSize headerSize =
     (line (Refused 2) (codeRule code)
     (line (Refused 3) (hostSizeRule (layout .«host_size»))
     (line (Refused 5) (versionRule (layout .magic) (layout .version))
-    (line (Refused 10) (dataAreaRule layout) Done)))))
+    (line (Refused 8) (sectorSizeRule (layout .«sector_size»))
+    (line (Refused 10) (dataAreaRule layout) Done))))))
 
 -- what the writer leaves: the header, and where it refuses the bytes as they were
 unfoldable pub headerLeft : Written → Layout → List ℕ → List ℕ → List ℕ → List ℕ

@@ -24,7 +24,7 @@ pub fn refusal(written: Written) -> u8
 
 // Writes the header of a volume, for a location code and a host's size, over all of header. Both checksums are
 // made, and what no field takes is zero. A refusal leaves header as it was: 1 for the length of salt, keys or
-// header, 19 for the magic, and then 2, 3, 5 and 10 as opening would.
+// header, 19 for the magic, and then 2, 3, 5, 8 and 10 as opening would.
 pub fn write(
     magic: [u8; 4],
     version: u16,
@@ -33,12 +33,13 @@ pub fn write(
     host_size: u64,
     data_start: u64,
     data_size: u64,
+    sector_size: u64,
     salt: &[u8],
     keys: &[u8],
     header: &mut [u8],
 ) -> Written
-    ensures { λ r. ⌜ r ≡ headerAnswer code (askedLayout magic version «min_program_version» code «host_size» «data_start» «data_size») (length (now (salt .entry))) (length (now (keys .entry))) (length (now (header .entry))) ⌝ }
-    ensures { λ r. ⌜ now (header .exit) ≡ headerLeft r (askedLayout magic version «min_program_version» code «host_size» «data_start» «data_size») (now (salt .entry)) (now (keys .entry)) (now (header .entry)) ⌝ }
+    ensures { λ r. ⌜ r ≡ headerAnswer code (askedLayout magic version «min_program_version» code «host_size» «data_start» «data_size» «sector_size») (length (now (salt .entry))) (length (now (keys .entry))) (length (now (header .entry))) ⌝ }
+    ensures { λ r. ⌜ now (header .exit) ≡ headerLeft r (askedLayout magic version «min_program_version» code «host_size» «data_start» «data_size» «sector_size») (now (salt .entry)) (now (keys .entry)) (now (header .entry)) ⌝ }
 {
     let layout = Layout {
         host_size,
@@ -49,6 +50,7 @@ pub fn write(
         data_start,
         data_size,
         candidate: 0,
+        sector_size,
     };
     write_layout(layout, code, salt, keys, header)
 }
@@ -104,6 +106,9 @@ fn judge(
     }
     if !header::keeps_version(layout.magic, layout.version) {
         return Written::Refused(5);
+    }
+    if !layout::is_sector_size(layout.sector_size) {
+        return Written::Refused(8);
     }
     if !layout::is_data_area(layout) {
         return Written::Refused(10);

@@ -13,7 +13,7 @@ use Rattle.layout.specs.{Rules.{sectorBytes, sound}, declared.Layout.Layout}
 use Rattle.layout.proofs.RuleLaws.{and-true-left, sound-ends}
 use Rattle.protection.specs.{Protection.{protectionRule, soundProtection, protectedExtent}, declared.Protection.Protection}
 use Rattle.sector_map.specs.SectorMap.{sectors}
-use Rattle.judgement.specs.Judging.{maxCount, blockedBy, endAnswer, checked, lockAnswer, readAnswer, writeAnswer, lockedAfter}
+use Rattle.judgement.specs.Judging.{maxCount, alignmentRule, blockedBy, endAnswer, checked, lockAnswer, readAnswer, writeAnswer, lockedAfter}
 use Rattle.judgement.specs.Offsets.{extentStart}
 
 -- 18 closes the lock, and no other number does
@@ -46,16 +46,17 @@ pub unlocked : {answer later : Answer} (locked : Bool) → locked ≡ false → 
 unlocked locked e same = rw (e, same)
 
 -- a refusal by the checks of every call does not depend on the later ones
-refused-alike : (a b c d : Bool) (way : Overlap) (later answer : Answer) → isAccepted answer ≡ false
-    → line (Refused 11) a (line (Refused 13) b (line (Refused 14) c (line (Refused 15) d (blockedBy 16 way Accepted)))) ≡ answer
-    → line (Refused 11) a (line (Refused 13) b (line (Refused 14) c (line (Refused 15) d (blockedBy 16 way later)))) ≡ answer
+refused-alike : (a b c d e : Bool) (way : Overlap) (later answer : Answer) → isAccepted answer ≡ false
+    → line (Refused 11) a (line (Refused 13) b (line (Refused 14) c (line (Refused 15) d (line (Refused 20) e (blockedBy 16 way Accepted))))) ≡ answer
+    → line (Refused 11) a (line (Refused 13) b (line (Refused 14) c (line (Refused 15) d (line (Refused 20) e (blockedBy 16 way later))))) ≡ answer
 unfolding blockedBy
-refused-alike false b c d way later answer f h = h
-refused-alike true false c d way later answer f h = h
-refused-alike true true false d way later answer f h = h
-refused-alike true true true false way later answer f h = h
-refused-alike true true true true (From sector) later answer f h = h
-refused-alike true true true true Apart later answer f h = unaccepted f (sym h)
+refused-alike false b c d e way later answer f h = h
+refused-alike true false c d e way later answer f h = h
+refused-alike true true false d e way later answer f h = h
+refused-alike true true true false e way later answer f h = h
+refused-alike true true true true false way later answer f h = h
+refused-alike true true true true true (From sector) later answer f h = h
+refused-alike true true true true true Apart later answer f h = unaccepted f (sym h)
 
 module _ (layout : Layout) (protection : Protection) (imageSize first count bufferSize : ℕ) where
   -- every check is passed
@@ -64,6 +65,7 @@ module _ (layout : Layout) (protection : Protection) (imageSize first count buff
     pub imageWhole : imageSize ≡ layout .«host_size»
     pub few : count ≤ maxCount
     pub bufferWhole : bufferSize ≡ count * sectorBytes
+    pub aligned : alignmentRule layout first count ≡ true
     pub inside : first + count ≤ sectors layout
 
   pub checked-accepted : (later : Answer) → checked layout protection imageSize first count bufferSize later ≡ Accepted → Passed × (later ≡ Accepted)
@@ -73,12 +75,14 @@ module _ (layout : Layout) (protection : Protection) (imageSize first count buff
       let p13 = line-accepted 13 (eqb imageSize (layout .«host_size»)) _ (p11 .1) in
       let p14 = line-accepted 14 (leb count maxCount) _ (p13 .1) in
       let p15 = line-accepted 15 (eqb bufferSize (count * sectorBytes)) _ (p14 .1) in
-      let p16 = blocked-accepted 16 _ later (p15 .1) in (
+      let p20 = line-accepted 20 (alignmentRule layout first count) _ (p15 .1) in
+      let p16 = blocked-accepted 16 _ later (p20 .1) in (
         record {
           soundness = p11 .0;
           imageWhole = eqb-true imageSize (layout .«host_size») (p13 .0);
           few = leb-true count maxCount (p14 .0);
           bufferWhole = eqb-true bufferSize (count * sectorBytes) (p15 .0);
+          aligned = p20 .0;
           inside = beyond-apart (record { first = first; count = count }) (sectors layout) (p16 .0);
         },
         p16 .1,
@@ -115,6 +119,7 @@ module _ (layout : Layout) (protection : Protection) (imageSize first count buff
         eq-eqb _ _ (p .imageWhole),
         le-leb _ _ (p .few),
         eq-eqb _ _ (p .bufferWhole),
+        p .aligned,
         apart-beyond (record { first = first; count = count }) (sectors layout) (p .inside),
       ))
 
@@ -124,7 +129,7 @@ module _ (layout : Layout) (protection : Protection) (imageSize first count buff
   unfolding readAnswer checked endAnswer
   checked-refused later judged e f =
       e ∙ sym (refused-alike (soundProtection layout protection) (eqb imageSize (layout .«host_size»)) (leb count maxCount)
-      (eqb bufferSize (count * sectorBytes)) (beyond (record { first = first; count = count }) (sectors layout)) later _ f (sym judged ∙ e))
+      (eqb bufferSize (count * sectorBytes)) (alignmentRule layout first count) (beyond (record { first = first; count = count }) (sectors layout)) later _ f (sym judged ∙ e))
 
 -- the refusals that name a sector
 abbrev pub namesSector : ℕ → Bool
@@ -144,7 +149,8 @@ module _ (P : Answer → Type 0) (refused : (number : ℕ) → eqb number 0 ≡ 
       line-holds P _ (soundProtection layout protection) _ (refused 11 refl refl)
       (line-holds P _ (eqb imageSize (layout .«host_size»)) _ (refused 13 refl refl)
       (line-holds P _ (leb count maxCount) _ (refused 14 refl refl)
-      (line-holds P _ (eqb bufferSize (count * sectorBytes)) _ (refused 15 refl refl) p)))
+      (line-holds P _ (eqb bufferSize (count * sectorBytes)) _ (refused 15 refl refl)
+      (line-holds P _ (alignmentRule layout first count) _ (refused 20 refl refl) p))))
 
   pub lock-by : (locked : Bool) → P (blockedBy 18 (overlap (record { first = first; count = count }) (protectedExtent layout protection)) Accepted)
       → P (lockAnswer layout protection locked first count)

@@ -1,17 +1,22 @@
 -- The order of checks (RULES.md, Reads and writes): what a read or a write answers, by lengths and numbers alone. What the contracts of
 -- `judgement` and `access` cite. Assumes nothing.
-use Prim.Native.Nat.{ℕ, _*_}
-use mathlib.Core.Bool.{Bool, true, not, cond}
+use Prim.Native.Nat.{ℕ, _*_, _/_}
+use mathlib.Core.Bool.{Bool, true, not, _&&_, cond}
 use lib.Dec.{leb, eqb}
 use Rattle.answers.specs.{Answers.line, declared.Answer.{Answer, the-variants.{Accepted, Refused, RefusedAt}}}
 use Rattle.extent.specs.{Extents.{overlap, beyond}, declared.Overlap.{Overlap, the-variants.{Apart, From}}}
-use Rattle.layout.specs.{Rules.sectorBytes, declared.Layout.Layout}
+use Rattle.layout.specs.{Rules.{sectorBytes, multiple}, declared.Layout.Layout}
 use Rattle.protection.specs.{Protection.{soundProtection, protectedExtent}, declared.Protection.Protection}
 use Rattle.sector_map.specs.SectorMap.{sectors}
 
 -- the most sectors of one call
 abbrev pub maxCount : ℕ
 maxCount = 128
+
+-- an extent is of whole sectors of the disk: its first sector and its count are multiples of Z/512
+unfoldable pub alignmentRule : Layout → ℕ → ℕ → Bool
+alignmentRule layout first count =
+    multiple first (layout .«sector_size» / sectorBytes) && multiple count (layout .«sector_size» / sectorBytes)
 
 -- one check of an extent: its refusal at the first sector in the way, else what the later checks say
 unfoldable pub blockedBy : ℕ → Overlap → Answer → Answer
@@ -29,7 +34,8 @@ checked layout protection imageSize first count bufferSize later =
     line (Refused 11) (soundProtection layout protection)
     (line (Refused 13) (eqb imageSize (layout .«host_size»))
     (line (Refused 14) (leb count maxCount)
-    (line (Refused 15) (eqb bufferSize (count * sectorBytes)) (endAnswer layout first count later))))
+    (line (Refused 15) (eqb bufferSize (count * sectorBytes))
+    (line (Refused 20) (alignmentRule layout first count) (endAnswer layout first count later)))))
 
 -- the later checks of a write: the lock, and then the protected range
 unfoldable pub lockAnswer : Layout → Protection → Bool → ℕ → ℕ → Answer

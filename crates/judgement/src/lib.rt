@@ -4,10 +4,10 @@
 ghost use mathlib.Core.Path.{_≡_};
 ghost use mathlib.Core.Bool.{true};
 ghost use Prim.Native.Nat.{_≤_};
-ghost use Rattle.layout.specs.Rules.{sound};
+ghost use Rattle.layout.specs.Rules.{sectorSizeRule, sound};
 ghost use Rattle.sector_map.specs.SectorMap.{sectors};
 ghost use Rattle.answers.specs.declared.Answer.the-variants.{Accepted};
-ghost use Rattle.judgement.specs.Judging.{readAnswer, writeAnswer, endAnswer, lockAnswer, lockedAfter};
+ghost use Rattle.judgement.specs.Judging.{alignmentRule, readAnswer, writeAnswer, endAnswer, lockAnswer, lockedAfter};
 ghost use Rattle.judgement.specs.Offsets.{extentStart, placedBy};
 use answers::Answer;
 use answers::Placement;
@@ -93,7 +93,20 @@ fn judge_read(
     if buffer_size != count * SECTOR_SIZE {
         return Answer::Refused(15);
     }
+    if !is_aligned(layout, first, count) {
+        return Answer::Refused(20);
+    }
     judge_end(layout, first, count)
+}
+
+// Whether an extent is of whole sectors of the disk. Each is 1, 2, 4 or 8 sectors of 512 bytes, so multiples of
+// that have none of the bits below.
+fn is_aligned(layout: Layout, first: u64, count: u64) -> bool
+    requires { ⌜ sectorSizeRule (layout .«sector_size») ≡ true ⌝ }
+    ensures { λ r. ⌜ r ≡ alignmentRule layout first count ⌝ }
+{
+    let below = layout.sector_size / SECTOR_SIZE - 1;
+    (first | count) & below == 0
 }
 
 // What a write answers: the checks of every call, then 17 where the lock is closed, and 18 where the

@@ -6,7 +6,7 @@ use mathlib.Core.{Path.{_≡_, refl, sym, _∙_}, Bool.{Bool, true, false, _&&_,
 use borrow.Author.Tests.{leb-true, lt-leb}
 use lib.Dec.{leb, eqb}
 use Rattle.layout.specs.declared.Layout.{Layout}
-use Rattle.layout.specs.Rules.{standard, hidden, sectorBytes, headersSize, minHostSize, maxHostSize, hostSizeRule, placeRule, sectorsRule, dataAreaRule, sound}
+use Rattle.layout.specs.Rules.{standard, hidden, sectorBytes, headersSize, minHostSize, maxHostSize, multiple, hostSizeRule, sectorSizeRule, placeRule, sectorsRule, dataAreaRule, sound}
 
 pub and-true-left : (a b : Bool) → (a && b) ≡ true → a ≡ true
 and-true-left true b h = refl
@@ -57,6 +57,29 @@ module _ (layout : Layout) where
       leb-true (start + layout .«data_size» + headersSize) (layout .«host_size»)
       (right-end (eqb (layout .kind) standard) (eqb start headersSize) (eqb (layout .kind) hidden) (leb headersSize start) ends kept)
 
+-- what an allowed data area says of Z and V
+module _ (layout : Layout) (area : dataAreaRule layout ≡ true) where
+  abbrev whole : ℕ → Bool
+  whole number = multiple number (layout .«sector_size»)
+
+  sectors-and-least : (sectorSizeRule (layout .«sector_size») && leb sectorBytes (layout .«data_size»)) ≡ true
+  unfolding dataAreaRule sectorsRule
+  sectors-and-least =
+      let some = sectorSizeRule (layout .«sector_size») && leb sectorBytes (layout .«data_size») in
+      let size = some && whole (layout .«data_size») in
+      let start = size && whole (layout .«data_start») in
+      and-true-left some (whole (layout .«data_size»))
+      (and-true-left size (whole (layout .«data_start»))
+      (and-true-left start (whole (layout .«host_size»)) (and-true-left (sectorsRule layout) (placeRule layout) area)))
+
+  pub area-sector-size : sectorSizeRule (layout .«sector_size») ≡ true
+  area-sector-size = and-true-left (sectorSizeRule (layout .«sector_size»)) (leb sectorBytes (layout .«data_size»)) sectors-and-least
+
+  pub size-least : sectorBytes ≤ layout .«data_size»
+  size-least =
+      leb-true sectorBytes (layout .«data_size»)
+      (and-true-right (sectorSizeRule (layout .«sector_size»)) (leb sectorBytes (layout .«data_size»)) sectors-and-least)
+
 module _ (layout : Layout) (kept : sound layout ≡ true) where
   pub sound-host-size : hostSizeRule (layout .«host_size») ≡ true
   unfolding sound
@@ -65,6 +88,9 @@ module _ (layout : Layout) (kept : sound layout ≡ true) where
   pub sound-data-area : dataAreaRule layout ≡ true
   unfolding sound
   sound-data-area = and-true-right (hostSizeRule (layout .«host_size»)) (dataAreaRule layout) kept
+
+  pub sound-sector-size : sectorSizeRule (layout .«sector_size») ≡ true
+  sound-sector-size = area-sector-size layout sound-data-area
 
   -- the data area ends before the backup headers
   pub sound-ends : layout .«data_start» + layout .«data_size» + headersSize ≤ layout .«host_size»

@@ -2,14 +2,14 @@
 // and a data area keep. Assumes nothing; no function has a `requires`.
 ghost use mathlib.Core.Path.{_≡_};
 ghost use Rattle.layout.specs.Opened.{openedRefusal};
-ghost use Rattle.layout.specs.Rules.{hostSizeRule, placeRule, dataAreaRule, sound};
+ghost use Rattle.layout.specs.Rules.{hostSizeRule, sectorSizeRule, placeRule, sectorsRule, dataAreaRule, sound};
 
 // The kinds of a volume, as a layout has them.
 pub const STANDARD: u64 = 0;
 
 pub const HIDDEN: u64 = 1;
 
-// A sector, and what the headers take at either end of the host.
+// A sector, whatever the disk's own have, and what the headers take at either end of the host.
 pub const SECTOR_SIZE: u64 = 512;
 
 pub const HEADERS_SIZE: u64 = 131_072;
@@ -30,6 +30,7 @@ pub struct Layout {
     pub data_start: u64, // O
     pub data_size: u64, // V
     pub candidate: u64, // the accepted one's index
+    pub sector_size: u64, // Z
 }
 
 // A layout, or a refusal number.
@@ -61,23 +62,33 @@ pub fn is_host_size(host_size: u64) -> bool
     host_size <= MAX_HOST_SIZE
 }
 
+// Whether a disk's own sectors may have this size.
+pub fn is_sector_size(size: u64) -> bool
+    ensures { λ r. ⌜ r ≡ sectorSizeRule size ⌝ }
+{
+    if size == 512 {
+        return true;
+    }
+    if size == 1_024 {
+        return true;
+    }
+    if size == 2_048 {
+        return true;
+    }
+    size == 4_096
+}
+
 // Whether a layout's data area is one that its kind may have in its host.
 pub fn is_data_area(layout: Layout) -> bool
     ensures { λ r. ⌜ r ≡ dataAreaRule layout ⌝ }
 {
-    if layout.data_size < SECTOR_SIZE {
-        return false;
-    }
-    if layout.data_size % SECTOR_SIZE != 0 {
-        return false;
-    }
-    if layout.data_start % SECTOR_SIZE != 0 {
+    if !is_of_sectors(layout) {
         return false;
     }
     is_in_place(layout)
 }
 
-// Whether a layout keeps the rules for its host's size and its data area.
+// Whether a layout keeps the rules for its host's size and its data area, its sector size among them.
 pub fn is_sound(layout: Layout) -> bool
     ensures { λ r. ⌜ r ≡ sound layout ⌝ }
 {
@@ -85,6 +96,21 @@ pub fn is_sound(layout: Layout) -> bool
         return false;
     }
     is_data_area(layout)
+}
+
+// Whether the data area is not empty, and it, its start and the host are of whole sectors of the disk. A sector
+// size is a power of two, so multiples of it have none of the bits below.
+fn is_of_sectors(layout: Layout) -> bool
+    ensures { λ r. ⌜ r ≡ sectorsRule layout ⌝ }
+{
+    if !is_sector_size(layout.sector_size) {
+        return false;
+    }
+    if layout.data_size < SECTOR_SIZE {
+        return false;
+    }
+    let below = layout.sector_size - 1;
+    (layout.data_size | layout.data_start | layout.host_size) & below == 0
 }
 
 // Whether the data area lies where its kind's may. A sum past 2^64 wraps to less than either number.

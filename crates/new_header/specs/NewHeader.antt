@@ -5,7 +5,7 @@ use lib.{Dec.eqb, ListN.{length, replicate}}
 use Rattle.fields.specs.{Bytes.{fieldPart, overlay}, declared.Field.Field}
 use Rattle.numbers.specs.Numbers.{bigEndianBytes}
 use Rattle.crc32.specs.Crc32.{crc32}
-use Rattle.layout.specs.{Rules.{sectorBytes, hidden}, declared.Layout.Layout}
+use Rattle.layout.specs.{Rules.hidden, declared.Layout.Layout}
 use Rattle.header.specs.Header.{headerBytes, saltField, magicField, versionField, minProgramVersionField, keyChecksumField, hiddenSizeField}
 use Rattle.header.specs.Header.{dataSizeField, dataStartField, encryptedSizeField, flagsField, sectorSizeField, headerChecksumField}
 use Rattle.header.specs.Header.{keysField, checkedField, vera, veraMagic, trueMagic}
@@ -20,7 +20,7 @@ newLengthsRule saltSize keysSize headerSize =
 unfoldable pub magicBytes : ℕ → List ℕ
 magicBytes magic = cond (eqb magic vera) veraMagic trueMagic
 
--- the numbers of a new header: H is V for a hidden volume and 0 for a standard one, E is V, no flag is set, and Z is 512
+-- the numbers of a new header: H is V for a hidden volume and 0 for a standard one, E is V, and no flag is set
 unfoldable pub newFields : Layout → Fields
 newFields layout =
     record {
@@ -31,7 +31,7 @@ newFields layout =
       «data_start» = layout .«data_start»;
       «encrypted_size» = layout .«data_size»;
       flags = 0;
-      «sector_size» = sectorBytes;
+      «sector_size» = layout .«sector_size»;
     }
 
 -- a field and its bytes, which spell a number

@@ -82,7 +82,7 @@ fn new_fields(layout: Layout) -> Fields
         data_start: layout.data_start,
         encrypted_size: layout.data_size,
         flags: 0,
-        sector_size: layout::SECTOR_SIZE,
+        sector_size: layout.sector_size,
     }
 }
 

@@ -67,12 +67,13 @@ pub extern "C" fn ondristela_write_header(
     host_size: u64,
     data_start: u64,
     data_size: u64,
+    sector_size: u64,
     salt: &[u8],
     keys: &[u8],
     header: &mut [u8],
 ) -> u64
-    ensures { λ r. ⌜ r ≡ writtenRefusal (headerAnswer code (askedLayout (now (magic .entry)) version «min_program_version» code «host_size» «data_start» «data_size») (length (now (salt .entry))) (length (now (keys .entry))) (length (now (header .entry)))) ⌝ }
-    ensures { λ _. ⌜ now (header .exit) ≡ headerLeft (headerAnswer code (askedLayout (now (magic .entry)) version «min_program_version» code «host_size» «data_start» «data_size») (length (now (salt .entry))) (length (now (keys .entry))) (length (now (header .entry)))) (askedLayout (now (magic .entry)) version «min_program_version» code «host_size» «data_start» «data_size») (now (salt .entry)) (now (keys .entry)) (now (header .entry)) ⌝ }
+    ensures { λ r. ⌜ r ≡ writtenRefusal (headerAnswer code (askedLayout (now (magic .entry)) version «min_program_version» code «host_size» «data_start» «data_size» «sector_size») (length (now (salt .entry))) (length (now (keys .entry))) (length (now (header .entry)))) ⌝ }
+    ensures { λ _. ⌜ now (header .exit) ≡ headerLeft (headerAnswer code (askedLayout (now (magic .entry)) version «min_program_version» code «host_size» «data_start» «data_size» «sector_size») (length (now (salt .entry))) (length (now (keys .entry))) (length (now (header .entry)))) (askedLayout (now (magic .entry)) version «min_program_version» code «host_size» «data_start» «data_size» «sector_size») (now (salt .entry)) (now (keys .entry)) (now (header .entry)) ⌝ }
 {
     boundary_headers::write_header(
         magic,
@@ -82,6 +83,7 @@ pub extern "C" fn ondristela_write_header(
         host_size,
         data_start,
         data_size,
+        sector_size,
         salt,
         keys,
         header,

@@ -29,10 +29,11 @@ protectedExtent layout Unprotected = record { first = 0; count = 0 }
 protectedExtent layout (Protected first end) =
     record { first = (first - layout .«data_start») / sectorBytes; count = (end - first) / sectorBytes }
 
--- a pair nests: a standard layout and a hidden one with the same S, whose data area does not reach out of the first's
+-- a pair nests: a standard layout and a hidden one with the same S and Z, whose data area does not reach out of the first's
 unfoldable pub nests : Layout → Layout → Bool
 nests outer hiddenLayout =
     eqb (outer .kind) standard && eqb (hiddenLayout .kind) hidden && eqb (outer .«host_size») (hiddenLayout .«host_size»)
+    && eqb (outer .«sector_size») (hiddenLayout .«sector_size»)
     && leb (outer .«data_start») (hiddenLayout .«data_start») && leb (areaEnd hiddenLayout) (areaEnd outer)
 
 -- whether a hidden volume can be protected in an outer one: both layouts are sound, and then they nest

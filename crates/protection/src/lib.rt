@@ -86,7 +86,7 @@ fn is_range(layout: Layout, start: u64, end: u64) -> bool
     end - layout.data_start <= layout.data_size
 }
 
-// Whether the second's data area lies inside the first's, and the two are of one host.
+// Whether the second's data area lies inside the first's, and the two are of one disk: its size and its sectors'.
 fn do_nest(outer: Layout, hidden: Layout) -> bool
     ensures { λ r. ⌜ r ≡ nests outer hidden ⌝ }
 {
@@ -97,6 +97,9 @@ fn do_nest(outer: Layout, hidden: Layout) -> bool
         return false;
     }
     if outer.host_size != hidden.host_size {
+        return false;
+    }
+    if outer.sector_size != hidden.sector_size {
         return false;
     }
     if hidden.data_start < outer.data_start {

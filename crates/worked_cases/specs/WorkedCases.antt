@@ -21,18 +21,31 @@ use Rattle.making.specs.declared.Viewed.the-variants as viewed
 use Rattle.map_output.specs.MapOutput.{layoutLines}
 use Rattle.guarantees.specs.MapProgram.{letters}
 
--- the fields of a version 5 TRUE header for a standard volume that starts at 131,072, from its magic to its last reserved byte: for the
--- keys' checksum, V and E
-unfoldable pub fieldBytes : ℕ → ℕ → ℕ → List ℕ
-fieldBytes keyChecksum size encryptedSize =
-    trueMagic ++ bigEndianBytes 2 5 ++ bigEndianBytes 2 1792 ++ bigEndianBytes 4 keyChecksum ++ replicate 16 0
-    ++ bigEndianBytes 8 0 ++ bigEndianBytes 8 size ++ bigEndianBytes 8 131072 ++ bigEndianBytes 8 encryptedSize
-    ++ bigEndianBytes 4 0 ++ bigEndianBytes 4 512 ++ replicate 120 0
+-- what a header of a case tells: H, O, V, which is also E, and Z
+pub record Told : Type 0 where
+  pub hiddenSize : ℕ
+  pub start : ℕ
+  pub size : ℕ
+  pub sectors : ℕ
 
--- the header: a salt, the fields, their checksum and the keys; salt and keys are zeros
-unfoldable pub headerWith : ℕ → ℕ → ℕ → List ℕ
-headerWith keyChecksum size encryptedSize =
-    let fields = fieldBytes keyChecksum size encryptedSize in
+-- .. for a standard volume, and for a hidden one
+unfoldable pub outerTold : ℕ → ℕ → Told
+outerTold size sectors = record { hiddenSize = 0; start = 131072; size = size; sectors = sectors }
+
+unfoldable pub hiddenTold : ℕ → ℕ → ℕ → Told
+hiddenTold start size sectors = record { hiddenSize = size; start = start; size = size; sectors = sectors }
+
+-- the fields of such a header, version 5 and TRUE, from its magic to its last reserved byte; its keys are zeros, which have this checksum
+unfoldable pub fieldBytes : Told → List ℕ
+fieldBytes told =
+    trueMagic ++ bigEndianBytes 2 5 ++ bigEndianBytes 2 1792 ++ bigEndianBytes 4 0x0D968558 ++ replicate 16 0
+    ++ bigEndianBytes 8 (told .hiddenSize) ++ bigEndianBytes 8 (told .size) ++ bigEndianBytes 8 (told .start) ++ bigEndianBytes 8 (told .size)
+    ++ bigEndianBytes 4 0 ++ bigEndianBytes 4 (told .sectors) ++ replicate 120 0
+
+-- the header: a salt, the fields, their checksum and the keys; the salt is zeros too
+unfoldable pub headerWith : Told → List ℕ
+headerWith told =
+    let fields = fieldBytes told in
     replicate 64 0 ++ fields ++ bigEndianBytes 4 (crc32 fields) ++ replicate 256 0
 
 -- what a case tells of opening: the refusal number, or 0 and the count of sectors
@@ -40,13 +53,17 @@ unfoldable pub toldOf : Opened → List ℕ
 toldOf (Accepted layout) = 0 ∷ layout .«data_size» / 512 ∷ []
 toldOf (Refused number) = number ∷ []
 
--- opening at code 0 with one header, for S
-unfoldable pub opens : ℕ → List ℕ → List ℕ
-opens hostSize header = toldOf (opened header (0 ∷ []) hostSize)
+-- opening at a code with one header, for S
+unfoldable pub opens : ℕ → ℕ → List ℕ → List ℕ
+opens code hostSize header = toldOf (opened header (code ∷ []) hostSize)
 
--- a volume in a host of 1,048,576 bytes, as a version 5 TRUE header tells it: its kind, O, V and candidate
-unfoldable pub volume : ℕ → ℕ → ℕ → ℕ → Layout
-volume kind start size candidate =
+-- .. with M's header, for a Z
+unfoldable pub opensM : ℕ → List ℕ
+opensM sectors = opens 0 1048576 (headerWith (outerTold 786432 sectors))
+
+-- a volume in a host of 1,048,576 bytes, as a version 5 TRUE header tells it: its kind, O, V, candidate and Z
+unfoldable pub volume : ℕ → ℕ → ℕ → ℕ → ℕ → Layout
+volume kind start size candidate sectors =
     record {
       «host_size» = 1048576;
       kind = kind;
@@ -56,14 +73,18 @@ volume kind start size candidate =
       «data_start» = start;
       «data_size» = size;
       candidate = candidate;
+      «sector_size» = sectors;
     }
 
--- M, a standard volume, and N, hidden in it
+-- M, a standard volume, and N, hidden in it; and M on a disk with sectors of 4,096 bytes
 unfoldable pub volumeM : Layout
-volumeM = volume 0 131072 786432 0
+volumeM = volume 0 131072 786432 0 512
 
 unfoldable pub volumeN : Layout
-volumeN = volume 1 655360 262144 1
+volumeN = volume 1 655360 262144 1 512
+
+unfoldable pub largeM : Layout
+largeM = volume 0 131072 786432 0 4096
 
 -- what a case tells of the map: the refusal number, or 0 and the sector or tweak number
 unfoldable pub mappedTold : Numbered → List ℕ
@@ -84,9 +105,13 @@ unfoldable pub onView : Viewed → (View → Answer) → List ℕ
 onView (viewed.Made view) answer = answerRefusal (answer view) ∷ sectorTold (answerSector (answer view))
 onView (viewed.Refused number) answer = []
 
--- the answer to a write, and to a read, on an image of M's size with a buffer of the extent's
+-- the answer to a write on an image of M's size with a buffer of some size
+unfoldable pub writingFrom : ℕ → ℕ → ℕ → View → Answer
+writingFrom bufferSize first count view = viewWrite view 1048576 first count bufferSize
+
+-- .. to a write, and to a read, on an image of M's size with a buffer of the extent's
 unfoldable pub writing : ℕ → ℕ → View → Answer
-writing first count view = viewWrite view 1048576 first count (count * 512)
+writing first count view = writingFrom (count * 512) first count view
 
 unfoldable pub reading : ℕ → ℕ → View → Answer
 reading first count view = viewRead view 1048576 first count (count * 512)
@@ -98,14 +123,26 @@ leaving first count view = after view (writing first count view)
 -- the table: what the definitions answer, and what the rules say
 unfoldable pub cases : List (List ℕ × List ℕ)
 cases =
-    let keyChecksum = crc32 (replicate 256 0) in
-    let oneSector = headerWith keyChecksum 512 512 in
+    let oneSector = headerWith (outerTold 512 512) in
     -- opening: in the least host, and in one that is a sector smaller
-    (opens 262656 oneSector, 0 ∷ 1 ∷ [])
-    ∷ (opens 262144 oneSector, 3 ∷ [])
+    (opens 0 262656 oneSector, 0 ∷ 1 ∷ [])
+    ∷ (opens 0 262144 oneSector, 3 ∷ [])
     -- .. with a data area that is a sector too large, and with one near 2^64
-    ∷ (opens 1048576 (headerWith keyChecksum 786944 786944), 10 ∷ [])
-    ∷ (opens 1048576 (headerWith keyChecksum (2 ^ 64 - 512) (2 ^ 64 - 512)), 10 ∷ [])
+    ∷ (opens 0 1048576 (headerWith (outerTold 786944 512)), 10 ∷ [])
+    ∷ (opens 0 1048576 (headerWith (outerTold (2 ^ 64 - 512) 512)), 10 ∷ [])
+    -- .. M's header with each size that a disk's sectors may have, and with three that they may not
+    ∷ (opensM 512, 0 ∷ 1536 ∷ [])
+    ∷ (opensM 1024, 0 ∷ 1536 ∷ [])
+    ∷ (opensM 2048, 0 ∷ 1536 ∷ [])
+    ∷ (opensM 4096, 0 ∷ 1536 ∷ [])
+    ∷ (opensM 513, 8 ∷ [])
+    ∷ (opensM 8192, 8 ∷ [])
+    ∷ (opensM 0, 8 ∷ [])
+    -- .. sectors of 4,096 bytes: S, then V, 512 off a multiple; N's header, and with O 512 off
+    ∷ (opens 0 1049088 (headerWith (outerTold 786432 4096)), 10 ∷ [])
+    ∷ (opens 0 1048576 (headerWith (outerTold 785920 4096)), 10 ∷ [])
+    ∷ (opens 1 1048576 (headerWith (hiddenTold 655360 262144 4096)), 0 ∷ 512 ∷ [])
+    ∷ (opens 1 1048576 (headerWith (hiddenTold 654848 262144 4096)), 10 ∷ [])
     -- the map: M's first sector, its last, the one past it, and N's first
     ∷ (tweakTold (tweakOf volumeM 0), 0 ∷ 256 ∷ 0x00 ∷ 0x01 ∷ replicate 14 0)
     ∷ (tweakTold (tweakOf volumeM 1535), 0 ∷ 1791 ∷ 0xFF ∷ 0x06 ∷ replicate 14 0)
@@ -127,6 +164,15 @@ cases =
     -- .. a write that starts inside it, and the last sector that a call can name
     ∷ (onView (plainView volumeM) (writing 1500 100), 16 ∷ 1536 ∷ [])
     ∷ (onView (plainView volumeM) (writing (2 ^ 64 - 1) 128), 16 ∷ (2 ^ 64 - 1) ∷ [])
+    -- M on a disk with sectors of 4,096 bytes: a start inside one, an end inside one, and one that is whole
+    ∷ (onView (plainView largeM) (writing 1 1), 20 ∷ [])
+    ∷ (onView (plainView largeM) (writing 0 7), 20 ∷ [])
+    ∷ (onView (plainView largeM) (writing 8 8), 0 ∷ [])
+    -- .. 15 comes before 20, and 20 before 16; and no sector at a start inside one
+    ∷ (onView (plainView largeM) (writingFrom 511 1 1), 15 ∷ [])
+    ∷ (onView (plainView largeM) (writing 1537 1), 20 ∷ [])
+    ∷ (onView (plainView largeM) (writing 1536 8), 16 ∷ 1536 ∷ [])
+    ∷ (onView (plainView largeM) (writing 1 0), 20 ∷ [])
     ∷ []
 
 -- the claim: every case, and the map program's whole output for M, is as the rules say

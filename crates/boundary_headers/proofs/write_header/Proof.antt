@@ -28,7 +28,7 @@ returns c =
     let salt : List ℕ = now (args .salt) in
     let keys : List ℕ = now (args .keys) in
     let header : List ℕ = now (args .header) in
-    let layout = askedLayout (now (args .magic)) (args .version) (args .min-program-version) (args .code) (args .host-size) (args .data-start) (args .data-size) in
+    let layout = askedLayout (now (args .magic)) (args .version) (args .min-program-version) (args .code) (args .host-size) (args .data-start) (args .data-size) (args .sector-size) in
     let answer : write .write .result ≡ headerAnswer (args .code) layout (length salt) (length keys) (length header) = write .write .ensures .0 in (
       c .refusal .ensures ∙ ap writtenRefusal answer,
       write .write .ensures .1 ∙ ap (λ (written : Written). headerLeft written layout salt keys header) answer,

@@ -30,6 +30,9 @@ shared-slice-read-t15 c = search needs
 shared-slice-read-t17 : tie.Need-shared-slice-read-t17
 shared-slice-read-t17 c = search needs
 
+shared-slice-read-t19 : tie.Need-shared-slice-read-t19
+shared-slice-read-t19 c = search needs
+
 returns : tie.Need-returns
 unfolding layoutFrom
 returns c = refl
@@ -46,4 +49,5 @@ read-layout-spec =
     shared-slice-read-t13
     shared-slice-read-t15
     shared-slice-read-t17
+    shared-slice-read-t19
     returns)

@@ -32,6 +32,9 @@ slice-write-numbers-7 c = simp length-set (omega (arith, c .pre))
 slice-write-numbers-8 : tie.Need-slice-write-numbers-8
 slice-write-numbers-8 c = simp length-set (omega (arith, c .pre))
 
+slice-write-numbers-9 : tie.Need-slice-write-numbers-9
+slice-write-numbers-9 c = simp length-set (omega (arith, c .pre))
+
 same-length : tie.Need-same-length
 same-length c = search needs
 
@@ -51,5 +54,6 @@ store-layout-spec =
     slice-write-numbers-6
     slice-write-numbers-7
     slice-write-numbers-8
+    slice-write-numbers-9
     same-length
     returns)

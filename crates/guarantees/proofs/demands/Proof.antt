@@ -14,6 +14,7 @@ use Rattle.guarantees.proofs.Opening.{opens-exactly-when, locates-heade
 use Rattle.guarantees.proofs.Parts.{keeps-parts}
 use Rattle.guarantees.proofs.Placing.{places-extents, places-numbers}
 use Rattle.guarantees.proofs.ReadsBack.{reads-back}
+use Rattle.guarantees.proofs.SameAt512.{same-at-512}
 use Rattle.guarantees.proofs.SectorMap.{maps-exactly, opened-sound}
 use Rattle.guarantees.proofs.Views.{makes-views}
 use Rattle.guarantees.proofs.WritesAgain.{writes-again}
@@ -55,6 +56,7 @@ returns c =
       placedNumbers = places-numbers;
       input = reads-input;
       output = prints-lines;
+      at512 = same-at-512;
     }
 
 pub demands-spec : {M : Type 1} → statement M

@@ -4,10 +4,10 @@ use mathlib.Core.{Path.{_≡_, sym, ap, _∙_}, Bool.{true, false}, List.List}
 use Prim.Native.Nat.{ℕ}
 use denote.Ref.{now}
 use borrow.Author.Tests.{eq-eqb, ne-eqb, not-true, not-false}
-use Rattle.layout.specs.declared.Opened.the-variants.{Accepted}
+use Rattle.layout.specs.{Rules.sectorSizeRule, declared.Opened.the-variants.Accepted}
 use Rattle.answers.proofs.KeptLaws.{line-kept, line-broken}
 use Rattle.header.specs.Header.{magicOf, fieldsOf, isHeader, acceptedLayout, judge}
-use Rattle.header.specs.Header.{versionRule, reservedRule, flagsRule, sectorSizeRule, hiddenSizeRule, areaRule}
+use Rattle.header.specs.Header.{versionRule, reservedRule, flagsRule, hiddenSizeRule, areaRule}
 use borrow.Author.Needs.{needs}
 use Rattle.header.proofs.first_broken.Statement.{statement}
 use Rattle.header.proofs.first_broken.Tie as tie
@@ -71,13 +71,11 @@ broken-7 : (c : tie.Then3) → flagsRule (fieldsOf (header (read6 (c .before .be
 unfolding flagsRule
 broken-7 c = rw (← read6 (c .before .before) .read-fields .ensures) (ne-eqb _ _ (c .if3 .taken))
 
-kept-8 : (c : tie.Else4) → sectorSizeRule (fieldsOf (header (read8 c)) .«sector_size») ≡ true
-unfolding sectorSizeRule
-kept-8 c = rw (← read8 c .read-fields .ensures) (eq-eqb _ _ (c .if4 .left))
+told-8 : (c : tie.After-is-sector-size) → sectorSizeRule (fieldsOf (header (read7 (c .before))) .«sector_size») ≡ c .is-sector-size .result
+told-8 c = rw (← read7 (c .before) .read-fields .ensures) (sym (c .is-sector-size .ensures))
 
-broken-8 : (c : tie.Then4) → sectorSizeRule (fieldsOf (header (read7 (c .before .before))) .«sector_size») ≡ false
-unfolding sectorSizeRule
-broken-8 c = rw (← read7 (c .before .before) .read-fields .ensures) (ne-eqb _ _ (c .if4 .taken))
+kept-8 : (c : tie.Else4) → sectorSizeRule (fieldsOf (header (read8 c)) .«sector_size») ≡ true
+kept-8 c = told-8 (c .before) ∙ not-false _ (c .if4 .left)
 
 told-9 : (c : tie.After-keeps-hidden-size)
     → let r = read8 (c .before) in
@@ -137,6 +135,9 @@ returns-3 c =
     (line-kept _ _ (kept-5 at5)
     (line-kept _ _ (kept-6 at6) (line-broken _ _ (broken-7 c)))))
 
+is-sector-size-requires : tie.Need-is-sector-size-requires
+is-sector-size-requires c κs = search needs
+
 returns-4 : tie.Need-returns-4
 unfolding judge
 returns-4 c =
@@ -147,7 +148,7 @@ returns-4 c =
     (line-kept _ _ (is-header (read5 at5))
     (line-kept _ _ (kept-5 at5)
     (line-kept _ _ (kept-6 at6)
-    (line-kept _ _ (kept-7 at7) (line-broken _ _ (broken-8 c))))))
+    (line-kept _ _ (kept-7 at7) (line-broken _ _ (told-8 (c .before) ∙ not-true _ (c .if4 .taken)))))))
 
 keeps-hidden-size-requires : tie.Need-keeps-hidden-size-requires
 keeps-hidden-size-requires c κs = search needs
@@ -216,6 +217,7 @@ first-broken-spec =
     keeps-reserved-requires
     returns-2
     returns-3
+    is-sector-size-requires
     returns-4
     keeps-hidden-size-requires
     returns-5

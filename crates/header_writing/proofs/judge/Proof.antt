@@ -4,12 +4,12 @@ use mathlib.Core.{Path.{_≡_, refl, sym, _∙_}, Bool.true}
 use borrow.Author.Needs.{needs}
 use borrow.Author.Tests.{le-leb, lt-leb, not-true, not-false}
 use Rattle.answers.specs.Answers.{line}
-use Rattle.layout.specs.Rules.{hostSizeRule, dataAreaRule}
+use Rattle.layout.specs.{Rules.{hostSizeRule, sectorSizeRule, dataAreaRule}, declared.Layout.Layout}
 use Rattle.locations.specs.Locations.{codeRule}
 use Rattle.header.specs.Header.{versionRule}
 use Rattle.new_header.specs.NewHeader.{newLengthsRule}
 use Rattle.header_writing.specs.HeaderWriting.{headerAnswer}
-use Rattle.header_writing.specs.declared.Written.the-variants.{Done, Refused}
+use Rattle.header_writing.specs.declared.Written.{Written, the-variants.{Done, Refused}}
 use Rattle.header_writing.proofs.judge.Statement.{statement}
 use Rattle.header_writing.proofs.judge.Tie as tie
 
@@ -30,13 +30,17 @@ returns-2 : tie.Need-returns-2
 unfolding headerAnswer
 returns-2 c = simp (lengths-kept (c .before .before), lt-leb _ _ (c .if2 .taken))
 
+-- the last two lines: of the sectors and of the data area
+abbrev areaAnswer : Layout → Written
+areaAnswer layout = line (Refused 8) (sectorSizeRule (layout .«sector_size»)) (line (Refused 10) (dataAreaRule layout) Done)
+
 -- what the first three tell of the answer, once they are passed: it is that of the others
 numbers-left : (c : tie.Else3)
     → let lengths = c .before .before .before in
     let args = lengths .before .before .args in
     headerAnswer (args .code) (args .layout) (args .salt-size) (args .keys-size) (args .header-size)
     ≡ line (Refused 3) (hostSizeRule (args .layout .«host_size»))
-    (line (Refused 5) (versionRule (args .layout .magic) (args .layout .version)) (line (Refused 10) (dataAreaRule (args .layout)) Done))
+    (line (Refused 5) (versionRule (args .layout .magic) (args .layout .version)) (areaAnswer (args .layout)))
 unfolding headerAnswer codeRule
 numbers-left c =
     let magic = c .before in
@@ -59,32 +63,46 @@ returns-4 c =
 keeps-version-requires : tie.Need-keeps-version-requires
 keeps-version-requires c κs = search needs
 
--- .. and once the host's size is right, those of the version and the data area; then that of the area alone
+-- .. and once the host's size is right, those of the version, the sectors and the data area; then of the last two, and of the area alone
 version-left : (c : tie.Else4)
     → let codes = c .before .before in
     let args = codes .before .before .before .before .before .args in
     headerAnswer (args .code) (args .layout) (args .salt-size) (args .keys-size) (args .header-size)
-    ≡ line (Refused 5) (versionRule (args .layout .magic) (args .layout .version)) (line (Refused 10) (dataAreaRule (args .layout)) Done)
+    ≡ line (Refused 5) (versionRule (args .layout .magic) (args .layout .version)) (areaAnswer (args .layout))
 version-left c = rw (numbers-left (c .before .before), sym (c .before .is-host-size .ensures) ∙ not-false _ (c .if4 .left)) refl
 
-area-left : (c : tie.Else5)
+sectors-left : (c : tie.Else5)
     → let host = c .before .before in
     let codes = host .before .before in
     let args = codes .before .before .before .before .before .args in
+    headerAnswer (args .code) (args .layout) (args .salt-size) (args .keys-size) (args .header-size) ≡ areaAnswer (args .layout)
+sectors-left c = rw (version-left (c .before .before), sym (c .before .keeps-version .ensures) ∙ not-false _ (c .if5 .left)) refl
+
+area-left : (c : tie.Else6)
+    → let version = c .before .before in
+    let host = version .before .before in
+    let codes = host .before .before in
+    let args = codes .before .before .before .before .before .args in
     headerAnswer (args .code) (args .layout) (args .salt-size) (args .keys-size) (args .header-size) ≡ line (Refused 10) (dataAreaRule (args .layout)) Done
-area-left c = rw (version-left (c .before .before), sym (c .before .keeps-version .ensures) ∙ not-false _ (c .if5 .left)) refl
+area-left c = rw (sectors-left (c .before .before), sym (c .before .is-sector-size .ensures) ∙ not-false _ (c .if6 .left)) refl
 
 returns-5 : tie.Need-returns-5
 returns-5 c = rw (version-left (c .before .before), sym (c .before .keeps-version .ensures) ∙ not-true _ (c .if5 .taken)) refl
 
+is-sector-size-requires : tie.Need-is-sector-size-requires
+is-sector-size-requires c κs = search needs
+
+returns-6 : tie.Need-returns-6
+returns-6 c = rw (sectors-left (c .before .before), sym (c .before .is-sector-size .ensures) ∙ not-true _ (c .if6 .taken)) refl
+
 is-data-area-requires : tie.Need-is-data-area-requires
 is-data-area-requires c κs = search needs
 
-returns-6 : tie.Need-returns-6
-returns-6 c = rw (area-left (c .before .before), sym (c .before .is-data-area .ensures) ∙ not-true _ (c .if6 .taken)) refl
-
 returns-7 : tie.Need-returns-7
-returns-7 c = rw (area-left (c .before .before), sym (c .before .is-data-area .ensures) ∙ not-false _ (c .if6 .left)) refl
+returns-7 c = rw (area-left (c .before .before), sym (c .before .is-data-area .ensures) ∙ not-true _ (c .if7 .taken)) refl
+
+returns-8 : tie.Need-returns-8
+returns-8 c = rw (area-left (c .before .before), sym (c .before .is-data-area .ensures) ∙ not-false _ (c .if7 .left)) refl
 
 pub judge-spec : {M : Type 1} → statement M
 judge-spec =
@@ -98,6 +116,8 @@ judge-spec =
     returns-4
     keeps-version-requires
     returns-5
-    is-data-area-requires
+    is-sector-size-requires
     returns-6
-    returns-7)
+    is-data-area-requires
+    returns-7
+    returns-8)

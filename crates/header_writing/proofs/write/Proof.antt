@@ -39,7 +39,7 @@ returns c =
     let header : List ℕ = now (args .header) in
     let kind-is : kind .kind-of .result ≡ locationOf (args .code) .kind = kind .kind-of .ensures in
     let magic-is : magic .magic-number .result ≡ magicNumber (args .t1) = magic .magic-number .ensures in
-    let asked = askedLayout (args .t1) (args .version) (args .min-program-version) (args .code) (args .host-size) (args .data-start) (args .data-size) in
+    let asked = askedLayout (args .t1) (args .version) (args .min-program-version) (args .code) (args .host-size) (args .data-start) (args .data-size) (args .sector-size) in
     let built : Layout =
     record {
       «host_size» = args .host-size;
@@ -50,6 +50,7 @@ returns c =
       «data_start» = args .data-start;
       «data_size» = args .data-size;
       candidate = 0;
+      «sector_size» = args .sector-size;
     } in
     let same : built ≡ asked =
     λ i. record {
@@ -61,6 +62,7 @@ returns c =
       «data_start» = args .data-start;
       «data_size» = args .data-size;
       candidate = 0;
+      «sector_size» = args .sector-size;
     } in (
       made .write-layout .ensures .0
           ∙ ap (λ (layout : Layout). headerAnswer (args .code) layout (length salt) (length keys) (length header)) same,

@@ -5,8 +5,9 @@ use Prim.Native.Nat.{_*_}
 use mathlib.Core.{Path.{_≡_, sym, _∙_}, Bool.true}
 use lib.Dec.{leb, eqb}
 use borrow.Author.Tests.{eq-eqb, ne-eqb, le-leb, lt-leb, not-true, not-false}
-use Rattle.protection.specs.Protection.{soundProtection}
-use Rattle.layout.specs.Rules.{sectorBytes}
+use Rattle.protection.specs.Protection.{protectionRule, soundProtection}
+use Rattle.layout.specs.Rules.{sectorBytes, sound}
+use Rattle.layout.proofs.RuleLaws.{and-true-left, sound-sector-size}
 use Rattle.judgement.specs.Judging.{maxCount, checked, readAnswer}
 use Rattle.judgement.proofs.judge_read.Statement.{statement}
 use Rattle.judgement.proofs.judge_read.Tie as tie
@@ -56,12 +57,28 @@ returns-4 c =
     let two = c .before .before in
     simp (both-sound (two .before .before), eq-eqb _ _ (two .if2 .left), le-leb _ _ (c .before .if3 .left), ne-eqb _ _ (c .if4 .taken))
 
-judge-end-requires : tie.Need-judge-end-requires
-judge-end-requires c κs = search needs
+is-aligned-requires : tie.Need-is-aligned-requires
+unfolding soundProtection
+is-aligned-requires c κs =
+    let first = second c .before .before in
+    let a = first .before .before .args in
+    sound-sector-size (a .layout) (and-true-left (sound (a .layout)) (protectionRule (a .layout) (a .protection)) (four-passed c .0))
 
 returns-5 : tie.Need-returns-5
 unfolding readAnswer checked
-returns-5 c = let p = four-passed (c .before) in simp (p .0, p .1, p .2, p .3) (c .judge-end .ensures)
+returns-5 c =
+    let p = four-passed (c .before .before) in
+    simp (p .0, p .1, p .2, p .3, sym (c .before .is-aligned .ensures) ∙ not-true _ (c .if5 .taken))
+
+judge-end-requires : tie.Need-judge-end-requires
+judge-end-requires c κs = search needs
+
+returns-6 : tie.Need-returns-6
+unfolding readAnswer checked
+returns-6 c =
+    let aligned = c .before in
+    let p = four-passed (aligned .before .before) in
+    simp (p .0, p .1, p .2, p .3, sym (aligned .before .is-aligned .ensures) ∙ not-false _ (aligned .if5 .left)) (c .judge-end .ensures)
 
 pub judge-read-spec : {M : Type 1} → statement M
 judge-read-spec =
@@ -73,5 +90,7 @@ judge-read-spec =
     returns-3
     mul-if4
     returns-4
+    is-aligned-requires
+    returns-5
     judge-end-requires
-    returns-5)
+    returns-6)

@@ -1,38 +1,25 @@
--- `layout::is_data_area` meets its contract: each return is under the tests that decide the rule's parts, in their order.
+-- `layout::is_data_area` meets its contract: whole sectors first, then the place.
 -- Assumes nothing.
+use mathlib.Core.Path.{sym, _∙_}
 use borrow.Author.Needs.{needs}
-use borrow.Author.Tests.{eq-eqb, ne-eqb, le-leb, lt-leb}
-use Rattle.layout.specs.Rules.{sectorsRule, dataAreaRule}
+use borrow.Author.Tests.{not-true, not-false}
+use Rattle.layout.specs.Rules.{dataAreaRule}
 use Rattle.layout.proofs.is_data_area.Statement.{statement}
 use Rattle.layout.proofs.is_data_area.Tie as tie
 
+is-of-sectors-requires : tie.Need-is-of-sectors-requires
+is-of-sectors-requires c κs = search needs
+
 returns : tie.Need-returns
-unfolding dataAreaRule sectorsRule
-returns c = simp (lt-leb _ _ (c .if1 .taken))
-
-returns-2 : tie.Need-returns-2
-unfolding dataAreaRule sectorsRule
-returns-2 c =
-    let some = c .before .before in
-    simp (le-leb _ _ (some .if1 .left), ne-eqb _ _ (c .if2 .taken))
-
-returns-3 : tie.Need-returns-3
-unfolding dataAreaRule sectorsRule
-returns-3 c =
-    let whole = c .before .before in
-    let some = whole .before .before in
-    simp (le-leb _ _ (some .if1 .left), eq-eqb _ _ (whole .if2 .left), ne-eqb _ _ (c .if3 .taken))
+unfolding dataAreaRule
+returns c = simp (sym (c .before .is-of-sectors .ensures) ∙ not-true _ (c .if1 .taken))
 
 is-in-place-requires : tie.Need-is-in-place-requires
 is-in-place-requires c κs = search needs
 
-returns-4 : tie.Need-returns-4
-unfolding dataAreaRule sectorsRule
-returns-4 c =
-    let aligned = c .before in
-    let whole = aligned .before .before in
-    let some = whole .before .before in
-    simp (le-leb _ _ (some .if1 .left), eq-eqb _ _ (whole .if2 .left), eq-eqb _ _ (aligned .if3 .left)) (c .is-in-place .ensures)
+returns-2 : tie.Need-returns-2
+unfolding dataAreaRule
+returns-2 c = simp (sym (c .before .before .is-of-sectors .ensures) ∙ not-false _ (c .before .if1 .left)) (c .is-in-place .ensures)
 
 pub is-data-area-spec : {M : Type 1} → statement M
-is-data-area-spec = tie.close (tie.spec returns returns-2 returns-3 is-in-place-requires returns-4)
+is-data-area-spec = tie.close (tie.spec is-of-sectors-requires returns is-in-place-requires returns-2)

@@ -22,7 +22,7 @@ returns c =
       «data_start» = layout .«data_start»;
       «encrypted_size» = layout .«data_size»;
       flags = 0;
-      «sector_size» = 512;
+      «sector_size» = layout .«sector_size»;
     }
 
 pub new-fields-spec : {M : Type 1} → statement M

@@ -1,8 +1,10 @@
 -- `protection::do_nest` meets its contract: each return is under the tests that decide the rule, in their order.
 -- Assumes nothing.
-use mathlib.Core.Path.{_∙_}
+use mathlib.Core.{Path.{_≡_, _∙_}, Bool.true}
+use lib.Dec.{eqb}
 use borrow.Author.Needs.{needs}
 use borrow.Author.Tests.{eq-eqb, ne-eqb, le-leb, lt-leb}
+use Rattle.layout.specs.Rules.{standard, hidden}
 use Rattle.protection.specs.Protection.{areaEnd, nests}
 use Rattle.protection.proofs.ProtectionLaws.{leb-sub-add}
 use Rattle.protection.proofs.do_nest.Statement.{statement}
@@ -31,25 +33,42 @@ returns-4 c =
       eq-eqb _ _ (two .before .before .if1 .left),
       eq-eqb _ _ (two .if2 .left),
       eq-eqb _ _ (three .if3 .left),
-      lt-leb _ _ (c .if4 .taken),
+      ne-eqb _ _ (c .if4 .taken),
     )
+
+-- past the first four tests the pair is of one disk
+abbrev third : tie.Else4 → tie.Else3
+third c = c .before .before .before
+
+abbrev second : tie.Else4 → tie.Else2
+second c = third c .before .before .before
+
+one-disk : (c : tie.Else4)
+    → let a = second c .before .before .before .before .args in
+    (eqb (a .outer .kind) standard ≡ true)
+    × (eqb (a .hidden .kind) hidden ≡ true)
+    × (eqb (a .outer .«host_size») (a .hidden .«host_size») ≡ true)
+    × (eqb (a .outer .«sector_size») (a .hidden .«sector_size») ≡ true)
+one-disk c =
+    let two = second c in
+    (eq-eqb _ _ (two .before .before .if1 .left), eq-eqb _ _ (two .if2 .left), eq-eqb _ _ (third c .if3 .left), eq-eqb _ _ (c .if4 .left))
+
+returns-5 : tie.Need-returns-5
+unfolding nests
+returns-5 c =
+    let one = one-disk (c .before .before .before) in
+    simp (one .0, one .1, one .2, one .3, lt-leb _ _ (c .if5 .taken))
 
 fits-requires : tie.Need-fits-requires
 fits-requires c κs = search needs
 
-returns-5 : tie.Need-returns-5
+returns-6 : tie.Need-returns-6
 unfolding nests areaEnd
-returns-5 c =
-    let four = c .before .before .before in
-    let three = four .before .before .before in
-    let two = three .before .before .before in
-    simp (
-      eq-eqb _ _ (two .before .before .if1 .left),
-      eq-eqb _ _ (two .if2 .left),
-      eq-eqb _ _ (three .if3 .left),
-      le-leb _ _ (four .if4 .left),
-    )
-    (c .fits2 .ensures ∙ leb-sub-add _ _ _ _ (four .if4 .left))
+returns-6 c =
+    let five = c .before .before .before in
+    let one = one-disk (five .before .before .before) in
+    simp (one .0, one .1, one .2, one .3, le-leb _ _ (five .if5 .left))
+    (c .fits2 .ensures ∙ leb-sub-add _ _ _ _ (five .if5 .left))
 
 pub do-nest-spec : {M : Type 1} → statement M
-do-nest-spec = tie.close (tie.spec returns returns-2 returns-3 returns-4 fits-requires returns-5)
+do-nest-spec = tie.close (tie.spec returns returns-2 returns-3 returns-4 returns-5 fits-requires returns-6)
