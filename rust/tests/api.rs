@@ -33,6 +33,7 @@ fn layout_fields() {
         data_start: 655_360,
         data_size: 262_144,
         candidate: 1,
+        sector_size: 512,
     };
     assert_eq!(open(&two_candidates(), &[0, 1], HOST_SIZE), Ok(layout));
     assert_eq!(
@@ -44,7 +45,7 @@ fn layout_fields() {
 #[test]
 fn layout_numbers() {
     for (header, code, layout) in [(OUTER_HEADER, 0, outer()), (HIDDEN_HEADER, 1, hidden())] {
-        let mut numbers = [0; 8];
+        let mut numbers = [0; 9];
         assert_eq!(raw::open(header, &[code], HOST_SIZE, &mut numbers), 0);
         assert_eq!(layout.numbers(), numbers);
     }
@@ -84,6 +85,7 @@ fn new_outer() -> NewHeader<'static> {
         host_size: HOST_SIZE,
         data_start: 131_072,
         data_size: 786_432,
+        sector_size: 512,
         salt: &OUTER_HEADER[..SALT_SIZE],
         keys: &OUTER_HEADER[HEADER_SIZE - KEYS_SIZE..],
     }
@@ -106,6 +108,7 @@ fn headers_taken_apart() {
     let apart = NewHeader::from_header(OUTER_HEADER, Location::Standard, HOST_SIZE).unwrap();
     assert_eq!((apart.magic, apart.version, apart.min_program_version), (Magic::True, 5, 0x0700));
     assert_eq!((apart.host_size, apart.data_start, apart.data_size), (HOST_SIZE, 131_072, 786_432));
+    assert_eq!(apart.sector_size, 512);
     assert_eq!((apart.salt, apart.keys), (new_outer().salt, new_outer().keys));
     let salted = NewHeader { salt: &[0x5A; SALT_SIZE], ..apart }.bytes().unwrap();
     assert_eq!(
@@ -125,6 +128,8 @@ fn refused_new_headers() {
         (NewHeader { keys: &[0; 257], ..new_outer() }, Refusal::Lengths),
         (NewHeader { host_size: HOST_SIZE + 1, ..new_outer() }, Refusal::HostSize),
         (NewHeader { version: 3, ..new_outer() }, Refusal::Version),
+        (NewHeader { sector_size: (1 << 32) + 512, ..new_outer() }, Refusal::SectorSize),
+        (NewHeader { sector_size: 4_096, host_size: HOST_SIZE + 512, ..new_outer() }, Refusal::DataArea),
         (NewHeader { data_size: 786_944, ..new_outer() }, Refusal::DataArea),
     ];
     for (new, refusal) in refusals {
@@ -142,7 +147,7 @@ fn refused_new_headers() {
 fn magics() {
     let header = &mut [0xA5; HEADER_SIZE];
     let answers = [Magic::Vera.letters(), Magic::True.letters(), *b"VERa"].map(|magic| {
-        raw::write_header(&magic, 5, 7, 0, HOST_SIZE, 131_072, 512, &[0; 64], &[0; 256], header)
+        raw::write_header(&magic, 5, 7, 0, HOST_SIZE, 131_072, 512, 512, &[0; 64], &[0; 256], header)
     });
     let refusals = answers.map(|answer| Refusal::from_number(answer, None));
     assert_eq!(refusals, [None, None, Some(Refusal::Magic)]);
@@ -177,14 +182,14 @@ fn sectors_and_tweaks() {
 #[test]
 fn view_numbers() {
     let (outer, hidden) = (outer(), hidden());
-    let (mut plain, mut protected) = ([0; 12], [0; 12]);
+    let (mut plain, mut protected) = ([0; 13], [0; 13]);
     assert_eq!(raw::view_plain(&hidden.numbers(), &mut plain), 0);
     assert_eq!(raw::view_protected(&outer.numbers(), &hidden.numbers(), &mut protected), 0);
     assert_eq!(View::plain(&hidden).unwrap().numbers(), plain);
     let view = View::protected(&outer, &hidden).unwrap();
     assert_eq!(view.numbers(), protected);
     assert_eq!((view.protected.clone(), view.locked), (Some(655_360..917_504), false));
-    assert_eq!(View { locked: true, ..view }.numbers()[11], 1);
+    assert_eq!(View { locked: true, ..view }.numbers()[12], 1);
     assert_eq!(View::protected(&hidden, &outer), Err(Refusal::NotNested));
 }
 
@@ -245,13 +250,13 @@ fn extents_are_judged_as_reads_and_writes_are() {
 
 #[test]
 fn refusals_and_their_numbers() {
-    for number in 1..=19 {
+    for number in 1..=20 {
         let refusal = Refusal::from_number(number, Some(7)).unwrap();
         assert_eq!(u64::from(refusal.number()), number);
         assert_eq!(refusal.sector(), [16, 18].contains(&number).then_some(7));
         assert!(refusal.to_string().ends_with(&format!(" (refusal {number})")));
     }
-    for number in [0, 20, 256 + 1, u64::MAX] {
+    for number in [0, 21, 256 + 1, u64::MAX] {
         assert_eq!(Refusal::from_number(number, Some(7)), None);
     }
     assert_eq!(Refusal::from_number(16, None), Some(Refusal::Outside { sector: None }));

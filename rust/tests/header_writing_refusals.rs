@@ -19,6 +19,7 @@ fn m() -> NewHeader {
         host_size: HOST_SIZE,
         data_start: 131_072,
         data_size: 786_432,
+        sector_size: 512,
         salt: vec![0x5A; 64],
         keys: vec![0xC3; 256],
     }
@@ -137,6 +138,41 @@ fn hidden_data_areas() {
     }
 }
 
+/// The four sizes, those beside them, and those that would be one of the four in 32 bits.
+#[test]
+fn sector_sizes() {
+    for sector_size in [512, 1_024, 2_048, 4_096] {
+        assert_answer(NewHeader { sector_size, ..m() }, 0);
+        assert_answer(NewHeader { sector_size, ..n() }, 0);
+        assert_answer(NewHeader { sector_size: sector_size + (1 << 32), ..m() }, 8);
+        for beside in [sector_size - 1, sector_size + 1, sector_size + 256, 3 * sector_size] {
+            assert_answer(NewHeader { sector_size: beside, ..m() }, 8);
+        }
+    }
+    for sector_size in [0, 1, 256, 8_192, 1 << 32, 1 << 63, 0u64.wrapping_sub(512), u64::MAX] {
+        assert_answer(NewHeader { sector_size, ..m() }, 8);
+        assert_answer(NewHeader { sector_size, ..n() }, 8);
+    }
+}
+
+/// The host, the data area's start or its size is a multiple of 512, but not of the disk's sectors.
+#[test]
+fn parts_of_a_disks_sector() {
+    for sector_size in [1_024, 2_048, 4_096] {
+        let (m, n) = (NewHeader { sector_size, ..m() }, NewHeader { sector_size, ..n() });
+        for part in [512, sector_size - 512] {
+            assert_answer(NewHeader { host_size: HOST_SIZE + part, ..m.clone() }, 10);
+            assert_answer(NewHeader { host_size: HOST_SIZE + part, ..n.clone() }, 10);
+            assert_answer(NewHeader { data_size: m.data_size - part, ..m.clone() }, 10);
+            assert_answer(NewHeader { data_size: n.data_size - part, ..n.clone() }, 10);
+            assert_answer(NewHeader { data_start: n.data_start - part, ..n.clone() }, 10);
+        }
+        assert_answer(NewHeader { host_size: HOST_SIZE + sector_size, ..m.clone() }, 0);
+        assert_answer(NewHeader { data_size: m.data_size - sector_size, ..m.clone() }, 0);
+        assert_answer(NewHeader { data_start: n.data_start - sector_size, ..n.clone() }, 0);
+    }
+}
+
 /// Each two rules that follow one another, broken at once: the earlier is the answer.
 #[test]
 fn two_broken_rules() {
@@ -145,14 +181,17 @@ fn two_broken_rules() {
     assert_answer(NewHeader { magic: *b"VERa", code: 4, ..m() }, 19);
     assert_answer(NewHeader { code: 4, host_size: HOST_SIZE + 1, ..m() }, 2);
     assert_answer(NewHeader { host_size: HOST_SIZE + 1, version: 6, ..m() }, 3);
+    assert_answer(NewHeader { version: 6, sector_size: 0, ..m() }, 5);
     assert_answer(NewHeader { version: 6, data_size: 0, ..m() }, 5);
+    assert_answer(NewHeader { sector_size: 513, data_size: 0, ..m() }, 8);
     assert_answer(NewHeader { keys: keys(), data_size: 0, ..m() }, 1);
 }
 
 /// All rules broken at once, and then one fewer each time, from the first on.
 #[test]
 fn every_rule_broken() {
-    let asked = NewHeader { magic: *b"true", code: 4, host_size: 1, version: 6, data_size: 0, ..m() };
+    let asked =
+        NewHeader { magic: *b"true", code: 4, host_size: 1, version: 6, data_size: 0, sector_size: 0, ..m() };
     assert_answer_at(511, asked.clone(), 1);
     assert_answer(asked.clone(), 19);
     let asked = NewHeader { magic: *b"TRUE", ..asked };
@@ -162,6 +201,8 @@ fn every_rule_broken() {
     let asked = NewHeader { host_size: HOST_SIZE, ..asked };
     assert_answer(asked.clone(), 5);
     let asked = NewHeader { version: 5, ..asked };
+    assert_answer(asked.clone(), 8);
+    let asked = NewHeader { sector_size: 512, ..asked };
     assert_answer(asked.clone(), 10);
     assert_answer(NewHeader { data_size: 512, ..asked }, 0);
 }

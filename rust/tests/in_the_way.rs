@@ -2,8 +2,10 @@
 //! four calls that tell it. The library and the rules in `reference` must both tell the larger of two sectors: the
 //! extent's first, and the first that is past the volume's end or protected.
 
+mod cases;
 mod reference;
 
+use cases::calls::{reads, writes, UNTOLD};
 use ondristela::raw;
 use reference::access::{self, Answer, Extent, View};
 use reference::layout::{Layout, HEADERS_SIZE, HIDDEN, SECTOR, STANDARD};
@@ -11,9 +13,6 @@ use reference::layout::{Layout, HEADERS_SIZE, HIDDEN, SECTOR, STANDARD};
 /// The volume's sectors, in a host that has room for five more.
 const SECTORS: u64 = 6;
 const HOST_SIZE: u64 = 2 * HEADERS_SIZE + SECTOR * (SECTORS + 5);
-
-/// What stands in a sector and in an offset before a call.
-const UNTOLD: u64 = 0xA5A5_5A5A_0FF0_F00F;
 
 fn layout(kind: u64, data_start: u64) -> Layout {
     Layout {
@@ -25,6 +24,7 @@ fn layout(kind: u64, data_start: u64) -> Layout {
         data_start,
         data_size: SECTOR * SECTORS,
         candidate: 0,
+        sector_size: 512,
     }
 }
 
@@ -59,33 +59,6 @@ fn expected_sector(view: &View, extent: Extent, number: u64) -> Option<u64> {
         18 => Some(extent.first.max((view.protected_start - view.layout.data_start) / SECTOR)),
         _ => None,
     }
-}
-
-/// What two calls answer, and what each leaves in its sector.
-type Answers = [(u64, u64); 2];
-
-/// What a read and its extent answer.
-fn reads(view: &View, image: &[u8], extent: Extent) -> Answers {
-    let Extent { first, count } = extent;
-    let (numbers, mut buffer) = (view.numbers(), vec![0; (count * SECTOR) as usize]);
-    let [mut one, mut other, mut offset] = [[UNTOLD]; 3];
-    let size = buffer.len() as u64;
-    let answer = raw::read(&numbers, image, first, count, &mut buffer, &mut one);
-    let extent_answer = raw::read_extent(&numbers, HOST_SIZE, first, count, size, &mut offset, &mut other);
-    [(answer, one[0]), (extent_answer, other[0])]
-}
-
-/// What a write and its extent answer, each on a view of its own.
-fn writes(view: &View, image: &mut [u8], extent: Extent) -> Answers {
-    let Extent { first, count } = extent;
-    let (mut numbers, mut again) = (view.numbers(), view.numbers());
-    let buffer = vec![0; (count * SECTOR) as usize];
-    let [mut one, mut other, mut offset] = [[UNTOLD]; 3];
-    let size = buffer.len() as u64;
-    let answer = raw::write(&mut numbers, image, first, count, &buffer, &mut one);
-    let extent_answer = raw::write_extent(&mut again, HOST_SIZE, first, count, size, &mut offset, &mut other);
-    assert_eq!(numbers, again, "{view:?} {extent:?}");
-    [(answer, one[0]), (extent_answer, other[0])]
 }
 
 fn check(view: &View, image: &mut [u8], extent: Extent) {

@@ -8,13 +8,15 @@ use std::mem;
 
 use cases::coverage::Coverage;
 use cases::lists::Lists;
-use ondristela::raw;
+use ondristela::raw::{self, ViewNumbers};
 use reference::access::{covered, View};
+use reference::layout::SECTOR_SIZES;
 use reference::model::{Call, Outcome, ReferenceModel, INNER, OUTER};
 use reference::random::Random;
 
 const SEED: u64 = 31;
-const CASES: u64 = 2_500;
+/// So many pairs of lists for each size of the disk's sectors.
+const CASES: u64 = 750;
 const RANDOM_ORDERS: usize = 4;
 
 /// What an order of calls came to: each list's outcomes, the image and the views' numbers at the end. It is
@@ -23,21 +25,21 @@ const RANDOM_ORDERS: usize = 4;
 struct End {
     outcomes: [Vec<Outcome>; 2],
     image: Vec<u8>,
-    views: [[u64; 12]; 2],
+    views: [ViewNumbers; 2],
 }
 
 /// The library's two views, with the locks that they start with.
-fn library_views(lists: &Lists) -> [[u64; 12]; 2] {
+fn library_views(lists: &Lists) -> [ViewNumbers; 2] {
     let [outer, hidden] = lists.layouts.map(|layout| layout.numbers());
-    let mut views = [[0; 12]; 2];
+    let mut views = [[0; 13]; 2];
     assert_eq!(raw::view_protected(&outer, &hidden, &mut views[OUTER]), 0);
     assert_eq!(raw::view_plain(&hidden, &mut views[INNER]), 0);
-    views[OUTER][11] = lists.locks[OUTER];
-    views[INNER][11] = lists.locks[INNER];
+    views[OUTER][12] = lists.locks[OUTER];
+    views[INNER][12] = lists.locks[INNER];
     views
 }
 
-fn library_step(view: &mut [u64; 12], image: &mut [u8], call: &Call) -> Outcome {
+fn library_step(view: &mut ViewNumbers, image: &mut [u8], call: &Call) -> Outcome {
     let (mut buffer, mut sector) = (call.buffer.clone(), [call.sector]);
     let (first, count) = (call.extent.first, call.extent.count);
     let answer = if call.writes {
@@ -168,20 +170,30 @@ impl Ends {
     }
 }
 
-#[test]
-fn interleavings() {
+/// Checks the cases of one size of the disk's sectors, and counts the answers of each list.
+fn check_cases(sector_size: u64) -> [Coverage; 2] {
     let mut coverages = [Coverage::new("outer calls"), Coverage::new("hidden calls")];
     let (mut ends, mut differing) = (Ends::default(), 0);
-    for case in 0..CASES {
+    for case in sector_size * CASES..(sector_size + 1) * CASES {
         let mut random = Random::of_case(SEED, case);
-        let lists = Lists::new(&mut random);
+        let lists = Lists::new(sector_size, &mut random);
         differing += ends.check(&lists, &orders(&lists, &mut random), case);
         for side in [OUTER, INNER] {
             ends.first.outcomes[side].iter().for_each(|outcome| coverages[side].count(outcome.answer));
         }
     }
-    println!("orders in which outer reads gave other bytes of protected sectors: {differing}");
-    assert!(differing >= 500);
-    coverages[OUTER].assert_exactly(&[0, 13, 14, 15, 16, 17, 18], 50);
-    coverages[INNER].assert_exactly(&[0, 13, 14, 15, 16, 17], 50);
+    println!("sectors of {sector_size}: outer reads gave other bytes of protected sectors {differing} times");
+    assert!(differing >= 150);
+    coverages
+}
+
+/// Where the disk's sectors are ours no call is refused 20, and else some are.
+#[test]
+fn interleavings() {
+    for sector_size in SECTOR_SIZES {
+        let unaligned: &[u64] = if sector_size == 512 { &[] } else { &[20] };
+        let [outer, hidden] = check_cases(sector_size);
+        outer.assert_exactly(&[&[0, 13, 14, 15, 16, 17, 18], unaligned].concat(), 15);
+        hidden.assert_exactly(&[&[0, 13, 14, 15, 16, 17], unaligned].concat(), 15);
+    }
 }

@@ -134,6 +134,35 @@ fn round_trip(layout: &Layout, user: u64, case: u64) -> bool {
     true
 }
 
+/// The map goes by sectors of 512 bytes: those of the disk make no difference to it.
+#[test]
+fn every_sector_size_is_mapped_alike() {
+    let mut larger = 0;
+    for case in 0..CASES {
+        let mut random = Random::of_case(SEED, case);
+        let layout = layouts::sound(&mut random);
+        let user = a_user_sector(&layout, &mut random);
+        let [given, fine] =
+            [layout, Layout { sector_size: 512, ..layout }].map(|layout| mapped(&layout, user));
+        assert_eq!(given, fine, "sector {user}, seed {SEED} case {case}: {layout:?}");
+        larger += u64::from(layout.sector_size > 512);
+    }
+    println!("layouts with larger sectors: {larger}");
+    assert!(larger >= 30_000);
+}
+
+/// What the map stores for a user sector, with its answers.
+fn mapped(layout: &Layout, user: u64) -> ([u64; 3], [u64; 2], [u8; 16]) {
+    let (numbers, host_sector) = (layout.numbers(), (layout.data_start / SECTOR).wrapping_add(user));
+    let ([mut host, mut back], mut block) = ([[UNTOUCHED]; 2], [0xA5; 16]);
+    let answers = [
+        raw::host_sector(&numbers, user, &mut host),
+        raw::user_sector(&numbers, host_sector, &mut back),
+        raw::tweak(&numbers, user, &mut block),
+    ];
+    (answers, [host[0], back[0]], block)
+}
+
 /// Every number above 1 that is a power of two, or one beside it, is no kind: 11.
 #[test]
 fn kinds_that_are_none() {

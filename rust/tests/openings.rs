@@ -3,14 +3,16 @@
 mod cases;
 mod reference;
 
-use cases::candidates::accepted;
+use std::collections::BTreeMap;
+
+use cases::candidates::{accepted, Candidate};
 use cases::coverage::Coverage;
 use cases::hosts;
 use cases::openings::{list, odd, single, Opening};
 use ondristela::raw;
-use reference::header::HEADER_SIZE;
+use reference::header::{HEADER_SIZE, MAGIC, SECTOR_SIZE};
 use reference::headers::{write_checksums, Header};
-use reference::opening::{key_range, location, open};
+use reference::opening::{key_range, kind_of_code, location, open};
 use reference::random::Random;
 
 /// What the outputs hold before a call: a refusal must leave it.
@@ -21,9 +23,9 @@ fn check(opening: &Opening, context: impl Fn() -> String) -> u64 {
     let Opening { candidates, codes, host_size } = opening;
     let (answer, layout, range) = match open(candidates, codes, *host_size) {
         Ok(layout) => (0, layout.numbers(), key_range(&layout)),
-        Err(refusal) => (refusal, [UNTOUCHED; 8], [UNTOUCHED; 2]),
+        Err(refusal) => (refusal, [UNTOUCHED; 9], [UNTOUCHED; 2]),
     };
-    let mut opened = [UNTOUCHED; 8];
+    let mut opened = [UNTOUCHED; 9];
     let open_answer = raw::open(candidates, codes, *host_size, &mut opened);
     assert_eq!((open_answer, opened), (answer, layout), "open, {}: {opening:?}", context());
     let mut keys = [UNTOUCHED; 2];
@@ -80,6 +82,35 @@ fn judged_alone(opening: &Opening) -> Vec<u64> {
     let candidates = opening.candidates.chunks_exact(HEADER_SIZE);
     let answers = candidates.zip(&opening.codes);
     answers.map(|(bytes, code)| open(bytes, &[*code], opening.host_size).err().unwrap_or(0)).collect()
+}
+
+/// How single headers come out by the disk's sectors: each size is accepted with each magic and for each kind, and each
+/// larger one is refused 10 where 512 would have been accepted.
+#[test]
+fn headers_show_every_sector_size() {
+    let mut reached = BTreeMap::new();
+    for case in 0..30_000 {
+        let opening = single(&mut Random::of_case(1, case));
+        if let Some(sort) = sort_by_sector_size(&opening) {
+            *reached.entry(sort).or_insert(0) += 1;
+        }
+    }
+    println!("by answer, magic, kind and sector size: {reached:?}");
+    assert_eq!(reached.len(), 2 * 2 * (4 + 3), "{reached:?}");
+    assert!(reached.values().all(|count| *count >= 20), "{reached:?}");
+}
+
+/// The answer, the magic, the kind and the sector size of a header that is accepted, or would be with 512.
+fn sort_by_sector_size(opening: &Opening) -> Option<(u64, String, u64, u32)> {
+    let Opening { candidates, codes, host_size } = opening;
+    let sector_size = u32::from_be_bytes(candidates[SECTOR_SIZE].try_into().unwrap());
+    let mut fine: Candidate = candidates[..].try_into().unwrap();
+    fine[SECTOR_SIZE].copy_from_slice(&512_u32.to_be_bytes());
+    write_checksums(&mut fine);
+    let answer = open(candidates, codes, *host_size).err().unwrap_or(0);
+    let is_told = (answer == 0 || answer == 10) && open(&fine, codes, *host_size).is_ok();
+    let magic = candidates[MAGIC].escape_ascii().to_string();
+    is_told.then_some((answer, magic, kind_of_code(codes[0]), sector_size))
 }
 
 /// Two headers, one of each magic, for each location code.

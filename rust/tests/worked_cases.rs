@@ -3,7 +3,7 @@
 
 mod reference;
 
-use ondristela::raw;
+use ondristela::raw::{self, ViewNumbers};
 use reference::access::{self, Answer, Extent, View};
 use reference::headers::{write_checksums, Header};
 use reference::layout::Layout;
@@ -21,8 +21,13 @@ const M: Layout = Layout {
     data_start: 131_072,
     data_size: 786_432,
     candidate: 0,
+    sector_size: 512,
 };
 const N: Layout = Layout { kind: 1, data_start: 655_360, data_size: 262_144, ..M };
+
+/// The same two on a disk with sectors of 4,096 bytes.
+const WIDE_M: Layout = Layout { sector_size: 4_096, ..M };
+const WIDE_N: Layout = Layout { sector_size: 4_096, ..N };
 
 /// Headers of M and N that tcplay made, by location code.
 const REAL_HEADERS: [&[u8; 512]; 4] = [
@@ -52,7 +57,7 @@ fn header(data_size: u64) -> Header {
 }
 
 fn assert_opens(candidates: &[u8], codes: &[u8], host_size: u64, expected: u64) {
-    let answer = raw::open(candidates, codes, host_size, &mut [0; 8]);
+    let answer = raw::open(candidates, codes, host_size, &mut [0; 9]);
     let reference = opening::open(candidates, codes, host_size).err().unwrap_or(0);
     assert_eq!([answer, reference], [expected; 2], "codes {codes:?}, host size {host_size}");
 }
@@ -61,7 +66,7 @@ fn assert_opens(candidates: &[u8], codes: &[u8], host_size: u64, expected: u64) 
 fn real_headers() {
     for (code, candidate) in REAL_HEADERS.iter().enumerate() {
         let layout = if code % 2 == 0 { M } else { N };
-        let mut numbers = [0; 8];
+        let mut numbers = [0; 9];
         assert_eq!(raw::open(*candidate, &[code as u8], HOST_SIZE, &mut numbers), 0);
         assert_eq!(numbers, layout.numbers(), "code {code}");
         assert_eq!(opening::open(*candidate, &[code as u8], HOST_SIZE), Ok(layout), "code {code}");
@@ -75,7 +80,7 @@ fn min_program_versions() {
         let mut candidate = Header { magic, version: 5, ..header(512) }.bytes();
         candidate[70..72].copy_from_slice(&bytes);
         write_checksums(&mut candidate);
-        let mut numbers = [0; 8];
+        let mut numbers = [0; 9];
         assert_eq!(raw::open(&candidate, &[0], HOST_SIZE, &mut numbers), 0);
         let reference = opening::open(&candidate, &[0], HOST_SIZE).unwrap();
         assert_eq!([numbers[4], reference.min_program_version], [expected; 2], "{bytes:02X?}");
@@ -91,6 +96,29 @@ fn host_and_data_sizes() {
     assert_opens(&header(0u64.wrapping_sub(512)).bytes(), &[0], HOST_SIZE, 10);
     assert_opens(&header(512).bytes(), &[0], 1 << 50, 0);
     assert_opens(&header(512).bytes(), &[0], (1 << 50) + 512, 3);
+}
+
+/// The four sizes of the disk's sectors are told, and others are refused; and on a disk with larger sectors the host
+/// and the data area must be made of whole ones.
+#[test]
+fn sector_sizes() {
+    for sector_size in [512, 1_024, 2_048, 4_096] {
+        let candidate = Header { sector_size, ..header(786_432) }.bytes();
+        let mut numbers = [0; 9];
+        assert_eq!(raw::open(&candidate, &[0], HOST_SIZE, &mut numbers), 0);
+        assert_eq!(numbers[8], u64::from(sector_size));
+        assert_opens(&candidate, &[0], HOST_SIZE, 0);
+    }
+    for sector_size in [0, 513, 1_536, 8_192, u32::MAX] {
+        assert_opens(&Header { sector_size, ..header(786_432) }.bytes(), &[0], HOST_SIZE, 8);
+    }
+    let wide = |data_size| Header { sector_size: 4_096, ..header(data_size) }.bytes();
+    assert_opens(&wide(786_432), &[0], HOST_SIZE + 512, 10);
+    assert_opens(&wide(786_432), &[0], HOST_SIZE + 4_096, 0);
+    assert_opens(&wide(786_432 - 512), &[0], HOST_SIZE, 10);
+    assert_opens(&wide(786_432 - 4_096), &[0], HOST_SIZE, 0);
+    assert_opens(&wide(4_096), &[0], 262_144 + 4_096, 0);
+    assert_opens(&wide(512), &[0], 262_656, 10);
 }
 
 #[test]
@@ -121,6 +149,16 @@ fn tweaks() {
     assert_tweak(&N, 0, Ok([0x00, 0x05]));
 }
 
+/// Tweaks count sectors of 512 bytes on a disk with larger ones too.
+#[test]
+fn tweaks_of_larger_sectors() {
+    assert_tweak(&WIDE_M, 0, Ok([0x00, 0x01]));
+    assert_tweak(&WIDE_M, 1, Ok([0x01, 0x01]));
+    assert_tweak(&WIDE_M, 1_535, Ok([0xFF, 0x06]));
+    assert_tweak(&WIDE_M, 1_536, Err(16));
+    assert_tweak(&WIDE_N, 0, Ok([0x00, 0x05]));
+}
+
 #[test]
 fn user_sectors() {
     for (host, expected) in [(255, Err(16)), (256, Ok(0)), (1_791, Ok(1_535)), (1_792, Err(16))] {
@@ -133,7 +171,7 @@ fn user_sectors() {
 
 /// One view of the library's and the reference's, on an image of zeros.
 struct Both {
-    numbers: [u64; 12],
+    numbers: ViewNumbers,
     view: View,
     image: Vec<u8>,
 }
@@ -189,4 +227,41 @@ fn writes_at_the_end_and_counts() {
     both.assert_read(0, 128, Answer::ACCEPTED);
     both.assert_write(0, 129, Answer::silent(14));
     both.assert_read(0, 129, Answer::silent(14));
+}
+
+#[test]
+fn extents_of_larger_sectors() {
+    let mut both = Both::new(access::plain(&WIDE_M).unwrap());
+    for (first, count) in [(1, 1), (0, 1), (0, 7), (4, 8), (1, 0), (1_529, 8), (1_537, 0), (u64::MAX, 128)] {
+        both.assert_write(first, count, Answer::silent(20));
+        both.assert_read(first, count, Answer::silent(20));
+    }
+    for (first, count) in [(0, 0), (0, 8), (8, 8), (1_528, 8), (1_536, 0), (1_408, 128)] {
+        both.assert_write(first, count, Answer::ACCEPTED);
+        both.assert_read(first, count, Answer::ACCEPTED);
+    }
+    both.assert_write(1_536, 8, Answer::telling(16, 1_536));
+    both.assert_read(1_544, 0, Answer::telling(16, 1_544));
+    both.assert_write(u64::MAX, 129, Answer::silent(14));
+}
+
+/// A write that is not of whole sectors of the disk's leaves the lock open, wherever it would go.
+#[test]
+fn protected_writes_of_larger_sectors() {
+    let mut both = Both::new(access::protected(&WIDE_M, &WIDE_N).unwrap());
+    both.assert_write(1_023, 2, Answer::silent(20));
+    both.assert_write(1_016, 8, Answer::ACCEPTED);
+    both.assert_write(1_016, 16, Answer::telling(18, 1_024));
+    both.assert_write(1_023, 2, Answer::silent(20));
+    both.assert_write(0, 8, Answer::silent(17));
+    both.assert_read(1_016, 16, Answer::ACCEPTED);
+}
+
+#[test]
+fn pairs_of_other_sector_sizes() {
+    for sector_size in [512, 1_024, 2_048] {
+        let hidden = Layout { sector_size, ..N };
+        let answer = raw::view_protected(&WIDE_M.numbers(), &hidden.numbers(), &mut [0; 13]);
+        assert_eq!((answer, access::protected(&WIDE_M, &hidden)), (12, Err(12)), "{sector_size}");
+    }
 }

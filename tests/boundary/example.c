@@ -30,6 +30,8 @@ static const char *write_outer_sectors(uint8_t *image, size_t image_size, const 
         return NULL;
     case ONDRISTELA_REFUSED_PROTECTED:
         return "that sector is the hidden volume's; the view takes no more writes";
+    case ONDRISTELA_REFUSED_UNALIGNED:
+        return "the disk has larger sectors, and only whole ones can be written";
     default:
         return "the outer volume has no such sector";
     }
@@ -44,13 +46,17 @@ void test_example(void)
 {
     static uint8_t image[HOST_SIZE], bytes[2 * ONDRISTELA_SECTOR_SIZE];
     uint8_t m[ONDRISTELA_HEADER_SIZE], n[ONDRISTELA_HEADER_SIZE], small[ONDRISTELA_HEADER_SIZE];
-    struct fields small_outer = volume_m;
+    uint8_t wide_m[ONDRISTELA_HEADER_SIZE], wide_n[ONDRISTELA_HEADER_SIZE];
+    struct fields small_outer = volume_m, wide_outer = volume_m, wide_hidden = volume_n;
     uint64_t sector;
 
     make_header(m, &volume_m);
     make_header(n, &volume_n);
     small_outer.data_size = small_outer.encrypted_size = 512;
     make_header(small, &small_outer);
+    wide_outer.sector_size = wide_hidden.sector_size = 4096;
+    make_header(wide_m, &wide_outer);
+    make_header(wide_n, &wide_hidden);
     memset(bytes, 0xE7, sizeof bytes);
     fill(&sector, sizeof sector);
     CHECK(write_outer_sectors(image, HOST_SIZE, m, n, 1022, 2, bytes, &sector) == NULL);
@@ -59,6 +65,7 @@ void test_example(void)
     CHECK(says(write_outer_sectors(image, HOST_SIZE, m, m, 0, 1, bytes, &sector), "hidden volume does not open"));
     CHECK(says(write_outer_sectors(image, HOST_SIZE, small, n, 0, 1, bytes, &sector), "does not lie in"));
     CHECK(says(write_outer_sectors(image, HOST_SIZE, m, n, 0, 129, bytes, &sector), "several calls"));
+    CHECK(says(write_outer_sectors(image, HOST_SIZE, wide_m, wide_n, 0, 2, bytes, &sector), "only whole ones"));
     CHECK(is_filled(&sector, sizeof sector));
     CHECK(says(write_outer_sectors(image, HOST_SIZE, m, n, 1023, 2, bytes, &sector), "the hidden volume's"));
     CHECK(sector == 1024);

@@ -62,6 +62,40 @@ static void test_sizes(void)
     CHECK(is_unsound(&layout));
 }
 
+/* The last is 4,096 in 32 bits. */
+static void test_disk_sectors(void)
+{
+    static const uint64_t sizes[9] = {0, 1, 511, 513, 1536, 8192, UINT64_MAX - 511, UINT64_MAX,
+                                      (UINT64_C(1) << 32) + 4096};
+    struct ondristela_layout m = layout_m, n = layout_n;
+    size_t index;
+
+    for (index = 0; index < 9; index++) {
+        m.sector_size = n.sector_size = sizes[index];
+        CHECK(is_unsound(&m));
+        CHECK(is_unsound(&n));
+    }
+}
+
+/* A host or a data area that is not of whole sectors of the disk's. */
+static void test_parts_of_sectors(void)
+{
+    struct ondristela_layout layout = layout_n;
+
+    layout.sector_size = 4096;
+    layout.data_size -= 512;
+    CHECK(is_unsound(&layout));
+    layout.data_start += 512;
+    CHECK(is_unsound(&layout));
+    layout.data_size -= 4096 - 512;
+    CHECK(is_unsound(&layout));
+    layout.data_start = layout_n.data_start;
+    layout.host_size += 2048;
+    CHECK(is_unsound(&layout));
+    layout.sector_size = 2048;
+    CHECK(!is_unsound(&layout));
+}
+
 /* The other numbers do not matter, and come back as they are. */
 static void test_other_numbers(void)
 {
@@ -123,6 +157,8 @@ void test_made_up(void)
 {
     test_kinds();
     test_sizes();
+    test_disk_sectors();
+    test_parts_of_sectors();
     test_other_numbers();
     test_ranges();
     test_booleans();

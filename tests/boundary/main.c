@@ -17,8 +17,10 @@ int main(void)
     test_writing_rules();
     test_search();
     test_views();
+    test_sector_sizes();
     test_access();
     test_refused_sectors();
+    test_unaligned();
     test_made_up();
     test_example();
     return report_checks();

@@ -12,7 +12,7 @@ static int same(uint64_t one, uint64_t other)
 
 void test_refusal_text(void)
 {
-    const uint64_t no_answer = ONDRISTELA_REFUSED_MAGIC + 1;
+    const uint64_t no_answer = ONDRISTELA_REFUSED_UNALIGNED + 1;
     uint64_t one, other;
 
     CHECK(strcmp(ondristela_refusal_text(ONDRISTELA_ACCEPTED), "accepted") == 0);

@@ -6,8 +6,8 @@
 #include "calls.h"
 #include "check.h"
 
-const struct request request_m = {"TRUE", 5, 1792, 0, HOST_SIZE, 131072, 786432, 64, 256, 512};
-const struct request request_n = {"TRUE", 5, 1792, 1, HOST_SIZE, 655360, 262144, 64, 256, 512};
+const struct request request_m = {"TRUE", 5, 1792, 0, HOST_SIZE, 131072, 786432, 512, 64, 256, 512};
+const struct request request_n = {"TRUE", 5, 1792, 1, HOST_SIZE, 655360, 262144, 512, 64, 256, 512};
 
 /* The header that was written last, and a byte behind it. */
 static uint8_t written[ONDRISTELA_HEADER_SIZE + 1];
@@ -23,9 +23,9 @@ uint64_t write_request(const struct request *request)
     memset(keys, 0xC3, sizeof keys);
     fill(written, sizeof written);
     answer = ondristela_write_header(magic, request->version, request->min_program_version, request->code,
-                                     request->host_size, request->data_start, request->data_size, salt,
-                                     request->salt_size, keys, request->keys_size, written,
-                                     request->header_size);
+                                     request->host_size, request->data_start, request->data_size,
+                                     request->sector_size, salt, request->salt_size, keys,
+                                     request->keys_size, written, request->header_size);
     header_size = answer == ONDRISTELA_ACCEPTED ? ONDRISTELA_HEADER_SIZE : 0;
     return is_filled(written + header_size, sizeof written - header_size) ? answer : CHANGED;
 }

@@ -16,6 +16,7 @@ struct request {
     uint64_t host_size;
     uint64_t data_start;
     uint64_t data_size;
+    uint64_t sector_size;
     size_t salt_size;
     size_t keys_size;
     size_t header_size;

@@ -38,7 +38,7 @@ static void test_refused_candidates(void)
     struct fields no_version = volume_m, no_sector_size = volume_m;
 
     no_version.version = 6;
-    no_sector_size.sector_size = 4096;
+    no_sector_size.sector_size = 8192;
     make_candidate(5, &no_sector_size);
     make_candidate(6, &no_version);
     CHECK(open_first(63, HOST_SIZE, &layout) == ONDRISTELA_REFUSED_SECTOR_SIZE);

@@ -12,8 +12,10 @@ void test_header_writing(void);
 void test_writing_rules(void);
 void test_search(void);
 void test_views(void);
+void test_sector_sizes(void);
 void test_access(void);
 void test_refused_sectors(void);
+void test_unaligned(void);
 void test_made_up(void);
 void test_example(void);
 

@@ -134,16 +134,19 @@ static void test_pairs(void)
     request.version = 6;
     CHECK(write_request(&request) == ONDRISTELA_REFUSED_HOST_SIZE);
     request.host_size = HOST_SIZE;
-    request.data_size = 0;
+    request.sector_size = 513;
     CHECK(write_request(&request) == ONDRISTELA_REFUSED_VERSION);
     request.version = 5;
+    request.data_size = 0;
+    CHECK(write_request(&request) == ONDRISTELA_REFUSED_SECTOR_SIZE);
+    request.sector_size = 4096;
     CHECK(write_request(&request) == ONDRISTELA_REFUSED_DATA_AREA);
 }
 
 /* Every rule broken, and then one rule fewer each time. */
 static void test_order_of_checks(void)
 {
-    struct request request = {"Vera", 6, 7, 4, 1, 0, 0, 63, 255, 511};
+    struct request request = {"Vera", 6, 7, 4, 1, 0, 0, 0, 63, 255, 511};
 
     CHECK(write_request(&request) == ONDRISTELA_REFUSED_LENGTHS);
     request.salt_size = 64;
@@ -157,6 +160,8 @@ static void test_order_of_checks(void)
     request.host_size = HOST_SIZE;
     CHECK(write_request(&request) == ONDRISTELA_REFUSED_VERSION);
     request.version = 5;
+    CHECK(write_request(&request) == ONDRISTELA_REFUSED_SECTOR_SIZE);
+    request.sector_size = 512;
     CHECK(write_request(&request) == ONDRISTELA_REFUSED_DATA_AREA);
     request.data_start = 131072;
     request.data_size = 512;

@@ -2,12 +2,20 @@
 import hashlib
 
 from .calls import access, make_up
+from .headers import LARGER_SIZES
 from .records import READ, READ_EXTENT, WRITE, WRITE_EXTENT
 from .reference_model import view
-from .sectors import hidden_layout, layout, MOST
+from .sectors import hidden_layout, layout, MOST, WRONG_SECTOR_SIZES
 
-LISTS = 40
+LISTS = 48
 CALLS = 10
+# As many sectors as crates/vectors/src/access.rt has a buffer for.
+MAX_COUNT = 130
+
+
+def disk_sector(size):
+    """How many sectors of 512 bytes a sector of the disk takes, 1 where the size is wrong."""
+    return size // 512 if size in LARGER_SIZES else 1
 
 
 class Choices:
@@ -24,23 +32,38 @@ class Choices:
         return options[self.below(len(options))]
 
 
+def generated_size(choices):
+    """A sector size, one of the four more often than another."""
+    if choices.below(12) == 0:
+        return choices.one(*(size for _, size in WRONG_SECTOR_SIZES))
+    return choices.one(512, 1_024, 2_048, 4_096)
+
+
+def rounded(choices, number, step):
+    """The next multiple of the step, or the one before, or in one case of six the number itself."""
+    up, down = -(-number // step) * step, number // step * step
+    return choices.one(up, up, up, down, down, number)
+
+
 def generated_view(choices):
     """A view of a volume with 1 to 1,536 sectors, and the user sectors that are its ends or its protected range's."""
-    sectors = choices.one(1, 9, 200, 700, 1_536)
+    size = generated_size(choices)
+    sectors = max(rounded(choices, choices.one(1, 9, 200, 700, 1_536), disk_sector(size)), 1)
     if choices.below(8) == 0:
         sectors = min(sectors, 512)
-        return view(hidden_layout(data_size=512 * sectors)), [0, sectors]
+        return view(hidden_layout(data_size=512 * sectors, sector_size=size)), [0, sectors]
     first = choices.below(sectors)
     end = min(first + choices.one(1, 2, 40, sectors), sectors)
     protected = (131_072 + 512 * first, 131_072 + 512 * end)
-    return view(layout(data_size=512 * sectors), protected, choices.below(12) == 0), [0, first, end, sectors]
+    fields = layout(data_size=512 * sectors, sector_size=size)
+    return view(fields, protected, choices.below(12) == 0), [0, first, end, sectors]
 
 
-def generated_call(choices, places):
-    """A call that begins near one of the places, or near the largest number."""
+def generated_call(choices, places, step):
+    """A call that begins near one of the places, or near the largest number, most often at a multiple of the step."""
     near = choices.one(*places, *places[1:3], *places[1:3], MOST)
-    first = min(max(near - 4 + choices.below(8), 0), MOST)
-    count = choices.one(0, 1, 2, 3, 4, 6, 9, 128, 129)
+    first = min(rounded(choices, min(max(near - 4 + choices.below(8), 0), MOST), step), MOST)
+    count = min(rounded(choices, choices.one(0, 1, 2, 3, 4, 6, 9, 128, 129), step), MAX_COUNT)
     buffer = choices.one(*[None] * 19, 512)
     request = choices.one(READ, WRITE, WRITE, READ_EXTENT, WRITE_EXTENT, WRITE_EXTENT)
     return None, access(request, 0, (first, count), buffer=buffer)
@@ -50,11 +73,12 @@ def generated_list(number):
     """Calls on one view, which is made anew before some of them."""
     choices = Choices(number)
     made, places = generated_view(choices)
+    step = disk_sector(made['layout']['sector_size'])
     calls = [make_up(0, made)]
     for _ in range(CALLS):
         if choices.below(2) == 0:
             calls.append(make_up(0, made))
-        calls.append(generated_call(choices, places))
+        calls.append(generated_call(choices, places, step))
     return calls
 
 

@@ -9,6 +9,9 @@ SALT = bytes((7 * i + 3) % 256 for i in range(64))
 KEYS = bytes((11 * i + 5) % 256 for i in range(256))
 OTHER_KEYS = KEYS[::-1]
 
+# The sector sizes above 512.
+LARGER_SIZES = (1_024, 2_048, 4_096)
+
 
 def header(magic=b'TRUE', version=5, needs=b'\x07\x00', hidden_size=0, data_size=786_432, data_start=131_072,
            encrypted_size=None, flags=0, sector_size=512, put=None, spoil=None, salt=SALT, keys=KEYS):

@@ -29,6 +29,19 @@ first 1280
 last 1791
 '''
 
+ONE_SECTOR_OF_4096 = '''\
+mark VERA
+version 5
+needs 267
+kind standard
+host 266240
+start 131072
+size 4096
+sectors 8
+first 256
+last 263
+'''
+
 ONE_SECTOR = '''\
 mark VERA
 version 2
@@ -70,6 +83,10 @@ MAPS = [
     ('sample_code3', HIDDEN.format('TRUE', 1_792), map_input(3, SAMPLES[3])),
     ('hidden_vera', HIDDEN.format('VERA', 267), map_input(1, vera_hidden(needs=b'\x01\x0b'))),
     ('one_sector', ONE_SECTOR, map_input(0, vera(version=2, needs=b'\x01\x0b', data_size=512), 262_656)),
+    ('sector_size_4096', WORKED, map_input(0, header(sector_size=4_096))),
+    ('hidden_of_4096', HIDDEN.format('VERA', 267), map_input(1, vera_hidden(needs=b'\x01\x0b', sector_size=4_096))),
+    ('one_sector_of_4096', ONE_SECTOR_OF_4096,
+     map_input(0, vera(needs=b'\x01\x0b', data_size=4_096, sector_size=4_096), 266_240)),
     ('largest_host', LARGEST, map_input(0, vera(data_size=2**50 - 262_144), 2**50)),
     ('empty', 'refused 1\n', b''),
     ('nine_bytes', 'refused 1\n', WORKED_INPUT[:9]),
@@ -82,9 +99,11 @@ MAPS = [
     ('version_3', 'refused 5\n', map_input(0, header(version=3))),
     ('reserved_byte', 'refused 6\n', map_input(0, vera(put={132: b'\1'}))),
     ('flags_bit_0', 'refused 7\n', map_input(0, header(flags=1))),
-    ('sector_size_1024', 'refused 8\n', map_input(0, header(sector_size=1_024))),
+    ('sector_size_1536', 'refused 8\n', map_input(0, header(sector_size=1_536))),
     ('hidden_as_standard', 'refused 9\n', map_input(0, SAMPLES[1])),
     ('data_size_786944', 'refused 10\n', map_input(0, header(data_size=786_944))),
+    ('data_size_785920_of_4096', 'refused 10\n', map_input(0, header(data_size=785_920, sector_size=4_096))),
+    ('host_1049088_of_4096', 'refused 10\n', map_input(0, header(sector_size=4_096), 1_049_088)),
 ]
 
 

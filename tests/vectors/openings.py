@@ -1,7 +1,7 @@
 """The cases of opening: a name, the answer, S, and the pairs of a location code and a candidate."""
 import zlib
 
-from .headers import changed, header, hidden, OTHER_KEYS, SAMPLES, vera, vera_hidden
+from .headers import changed, header, hidden, LARGER_SIZES, OTHER_KEYS, SAMPLES, vera, vera_hidden
 from .records import Case, OPENING, outcome, same, spaced
 from .rules import open_volume
 
@@ -117,15 +117,35 @@ RESERVED = [
     ('flags bits 0 and 2', 6, HOST, [(0, header(flags=0b101))]),
 ]
 
-FLAGS_AND_SECTOR_SIZE = [
+FLAGS = [
     ('flags bit 0', 7, HOST, [(0, header(flags=1))]),
     ('flags bit 1', 7, HOST, [(0, vera(flags=2))]),
     ('flags bits 0 and 1', 7, HOST, [(0, header(flags=3))]),
+]
+
+SECTOR_SIZES = [
+    *((f'Z {size}, {name} code {code}', accepted(kind=kind, magic=magic, sector_size=size), HOST, [(code, h)])
+      for size in (512, 1_024, 2_048, 4_096)
+      for magic, name, standard, inner in ((1, 'TRUE', header, hidden), (0, 'VERA', vera, vera_hidden))
+      for code, kind, h in ((0, 0, standard(sector_size=size)), (1, 1, inner(sector_size=size)),
+                            (2, 0, standard(sector_size=size)), (3, 1, inner(sector_size=size)))),
     ('Z 0', 8, HOST, [(0, header(sector_size=0))]),
     ('Z 511', 8, HOST, [(0, header(sector_size=511))]),
     ('Z 513', 8, HOST, [(0, header(sector_size=513))]),
-    ('Z 1024', 8, HOST, [(0, vera(sector_size=1_024))]),
+    ('Z 256', 8, HOST, [(0, header(sector_size=256))]),
+    ('Z 1536', 8, HOST, [(0, vera(sector_size=1_536))]),
+    ('Z 2049', 8, HOST, [(0, header(sector_size=2_049))]),
+    ('Z 3072', 8, HOST, [(0, header(sector_size=3_072))]),
+    ('Z 4095', 8, HOST, [(0, header(sector_size=4_095))]),
+    ('Z 8192', 8, HOST, [(0, header(sector_size=8_192))]),
     ('Z 66048', 8, HOST, [(0, header(sector_size=65_536 + 512))]),
+    ('Z 69632', 8, HOST, [(0, vera(sector_size=65_536 + 4_096))]),
+    ('Z 2^32-1', 8, HOST, [(0, header(sector_size=2**32 - 1))]),
+    ('Z 4096 little-endian', 8, HOST, [(0, header(put={128: b'\0\x10\0\0'}))]),
+    ('hidden, Z 0', 8, HOST, [(1, hidden(sector_size=0))]),
+    ('hidden, Z 8192', 8, HOST, [(1, vera_hidden(sector_size=8_192))]),
+    ('backup, Z 1536', 8, HOST, [(2, header(sector_size=1_536))]),
+    ('hidden backup, Z 2^32-1', 8, HOST, [(3, hidden(sector_size=2**32 - 1))]),
 ]
 
 HIDDEN_SIZES = [
@@ -169,12 +189,59 @@ AREAS = [
     ('hidden, O 2^64-512, V 1024', 10, HOST, [(1, hidden(data_start=2**64 - 512, data_size=1_024))]),
 ]
 
+# S, V and O held against Z.
+MULTIPLES = [
+    ('Z 512, S 512 more', accepted(sector_size=512), HOST + 512, [(0, M)]),
+    ('Z 512, V 512 less', accepted(sector_size=512), HOST, [(0, header(data_size=785_920))]),
+    ('Z 512, O 512 less', accepted(sector_size=512), HOST, [(1, hidden(data_start=654_848))]),
+    *((f'Z {size}, S 512 more', 10, HOST + 512, [(0, header(sector_size=size))]) for size in LARGER_SIZES),
+    *((f'Z {size}, V 512 less', 10, HOST, [(0, header(sector_size=size, data_size=785_920))])
+      for size in LARGER_SIZES),
+    *((f'Z {size}, O 512 less', 10, HOST, [(1, hidden(sector_size=size, data_start=654_848))])
+      for size in LARGER_SIZES),
+    *((f'Z {size}, S Z/2 more', 10, HOST + size // 2, [(2, vera(sector_size=size))]) for size in (2_048, 4_096)),
+    *((f'Z {size}, V Z/2 less', 10, HOST, [(2, vera(sector_size=size, data_size=786_432 - size // 2))])
+      for size in (2_048, 4_096)),
+    *((f'Z {size}, O Z/2 less', 10, HOST, [(3, vera_hidden(sector_size=size, data_start=655_360 - size // 2))])
+      for size in (2_048, 4_096)),
+    *((f'Z {size}, S Z more', accepted(host_size=HOST + size), HOST + size, [(2, vera(sector_size=size))])
+      for size in LARGER_SIZES),
+    *((f'Z {size}, V Z less', accepted(data_size=786_432 - size), HOST,
+       [(2, vera(sector_size=size, data_size=786_432 - size))]) for size in LARGER_SIZES),
+    *((f'Z {size}, O Z less', accepted(data_start=655_360 - size), HOST,
+       [(3, vera_hidden(sector_size=size, data_start=655_360 - size))]) for size in LARGER_SIZES),
+    ('Z 4096, hidden, S 512 more', 10, HOST + 512, [(1, hidden(sector_size=4_096))]),
+    ('Z 4096, hidden, V 512 less', 10, HOST, [(1, hidden(sector_size=4_096, data_size=261_632))]),
+    ('Z 4096, V 512', 10, HOST, [(0, header(sector_size=4_096, data_size=512))]),
+    ('Z 4096, V 0', 10, HOST, [(0, header(sector_size=4_096, data_size=0))]),
+    ('Z 4096, V 790528', 10, HOST, [(0, header(sector_size=4_096, data_size=790_528))]),
+    ('Z 4096, V and E 2^64-4096', 10, HOST, [(0, header(sector_size=4_096, data_size=2**64 - 4_096))]),
+    ('Z 4096, E 4096 less than V', 10, HOST, [(0, header(sector_size=4_096, encrypted_size=782_336))]),
+    ('Z 4096, standard, O 135168', 10, HOST, [(0, header(sector_size=4_096, data_start=135_168, data_size=4_096))]),
+    ('Z 4096, S 262656, V 512', 10, 262_656, [(0, header(sector_size=4_096, data_size=512))]),
+    ('Z 4096, S 266240, V 4096', accepted(data_size=4_096, sector_size=4_096), 266_240,
+     [(0, header(sector_size=4_096, data_size=4_096))]),
+    ('Z 4096, S 2^50, largest V', accepted(sector_size=4_096), 2**50,
+     [(0, header(sector_size=4_096, data_size=2**50 - 262_144))]),
+    ('Z 4096, hidden, last 4096 bytes', accepted(data_start=913_408), HOST,
+     [(1, hidden(sector_size=4_096, data_start=913_408, data_size=4_096))]),
+]
+
 ORDER = [
     ('5 before 6', 5, HOST, [(0, vera(version=6, flags=4))]),
     ('6 before 7', 6, HOST, [(0, vera(put={76: b'\1'}, flags=1))]),
     ('7 before 8', 7, HOST, [(0, header(flags=2, sector_size=0))]),
     ('8 before 9', 8, HOST, [(0, header(sector_size=0, hidden_size=512))]),
+    ('8 before 9, Z 8192', 8, HOST, [(0, header(sector_size=8_192, hidden_size=512))]),
+    ('8 before 9 and 10', 8, HOST, [(1, hidden(sector_size=1_536, hidden_size=0, data_start=0))]),
+    ('8 before 10', 8, HOST, [(0, header(sector_size=8_192, data_size=0))]),
+    ('8 before 10, V no multiple of Z', 8, HOST, [(0, header(sector_size=8_192, data_size=4_096))]),
+    ('8 before 10, S no multiple of Z', 8, HOST + 512, [(0, header(sector_size=8_192))]),
     ('9 before 10', 9, HOST, [(0, header(hidden_size=512, data_size=0))]),
+    ('9 before 10, V no multiple of Z', 9, HOST, [(0, header(hidden_size=512, sector_size=4_096, data_size=512))]),
+    ('9 before 10, S no multiple of Z', 9, HOST + 512, [(1, header(sector_size=4_096))]),
+    ('7 before 10, V no multiple of Z', 7, HOST, [(0, header(flags=1, sector_size=4_096, data_size=512))]),
+    ('3 before 10, S no multiple of Z', 3, HOST + 256, [(0, header(sector_size=4_096))]),
     ('5 before 10', 5, HOST, [(1, hidden(version=3, data_start=0))]),
 ]
 
@@ -186,6 +253,15 @@ SEARCHES = [
     ('first header 5, later 10', 5, HOST, [(0, header(version=3)), (0, header(data_size=0))]),
     ('no header, then 8', 8, HOST, [(0, ZEROS), (0, header(sector_size=0))]),
     ('no header, no header, 6, 5', 6, HOST, [(0, ZEROS), (1, NEITHER), (0, vera(flags=4)), (0, vera(version=6))]),
+    ('Z 8192, then Z 4096', accepted(1, sector_size=4_096), HOST,
+     [(0, header(sector_size=8_192)), (0, header(sector_size=4_096))]),
+    ('S no multiple of Z 4096, then Z 512', accepted(1, sector_size=512), HOST + 512,
+     [(0, header(sector_size=4_096)), (0, M)]),
+    ('Z 4096 and Z 512 acceptable', accepted(0, sector_size=4_096), HOST, [(0, header(sector_size=4_096)), (0, M)]),
+    ('first header 10 by Z, later 8', 10, HOST,
+     [(0, header(sector_size=4_096, data_size=512)), (0, header(sector_size=8_192))]),
+    ('first header 8, later 10 by Z', 8, HOST,
+     [(0, header(sector_size=8_192)), (0, header(sector_size=4_096, data_size=512))]),
     ('9, then no header', 9, HOST, [(1, M), (0, ZEROS)]),
     ('no header of three', 4, HOST, [(0, ZEROS), (1, NEITHER), (2, changed(M, 300))]),
     ('two acceptable', accepted(0, version=4), HOST, [(0, header(version=4)), (0, header(keys=OTHER_KEYS))]),
@@ -217,8 +293,8 @@ LENGTHS = [
 
 def cases():
     """Every case as name, answer, S, codes and candidate bytes."""
-    for table in (HOST_SIZES, CODES, LOCATIONS, HEADERS, VERSIONS, RESERVED, FLAGS_AND_SECTOR_SIZE,
-                  HIDDEN_SIZES, AREAS, ORDER, SEARCHES):
+    for table in (HOST_SIZES, CODES, LOCATIONS, HEADERS, VERSIONS, RESERVED, FLAGS, SECTOR_SIZES, HIDDEN_SIZES, AREAS,
+                  MULTIPLES, ORDER, SEARCHES):
         for name, answer, host_size, pairs in table:
             yield name, answer, host_size, bytes(code for code, _ in pairs), b''.join(h for _, h in pairs)
     yield from LENGTHS
@@ -226,7 +302,7 @@ def cases():
 
 def answers(answer, candidates):
     if isinstance(answer, int):
-        word, layout, keys = outcome(answer), [0] * 8, b''
+        word, layout, keys = outcome(answer), [0] * 9, b''
     else:
         word, layout = 'accepted', answer.values()
         keys = candidates[512 * answer['candidate'] + 256:][:256]

@@ -45,8 +45,15 @@ def protected_view(outer, hidden):
     if not (is_sound(outer) and is_sound(hidden)):
         return 11
     nests = (outer['kind'] == 0 and hidden['kind'] == 1 and outer['host_size'] == hidden['host_size']
+             and outer['sector_size'] == hidden['sector_size']
              and all(sector in area(outer) for sector in area(hidden)))
     return view(outer, (hidden['data_start'], hidden['data_start'] + hidden['data_size'])) if nests else 12
+
+
+def is_aligned(fields, first, count):
+    """Whether an extent is whole sectors of the disk, each so many of 512 bytes."""
+    disk_sector = fields['sector_size'] // 512
+    return first % disk_sector == 0 and count % disk_sector == 0
 
 
 def first_outside(fields, first, count):
@@ -99,6 +106,8 @@ class ReferenceModel:
             return Told(14)
         if buffer_size != 512 * count:
             return Told(15)
+        if not is_aligned(v['layout'], first, count):
+            return Told(20)
         if first + count > sector_count(v['layout']):
             return Told(16, first_outside(v['layout'], first, count))
         if is_write and v['locked']:

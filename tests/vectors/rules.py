@@ -10,13 +10,22 @@ def is_host_size(host_size):
     return host_size % 512 == 0 and 262_656 <= host_size <= 2**50
 
 
+def is_sector_size(sector_size):
+    return sector_size in (512, 1_024, 2_048, 4_096)
+
+
 def is_version(magic, version):
     return version in {b'VERA': (2, 3, 4, 5), b'TRUE': (4, 5)}[magic]
 
 
-def is_data_area(is_hidden, host_size, data_start, data_size):
-    """The last header line, with E taken as V."""
-    return (data_size >= 512 and data_size % 512 == 0 and data_start % 512 == 0
+def is_multiple(size, sector_size):
+    """Whether it is one; 0 has no multiple but itself."""
+    return size % sector_size == 0 if sector_size else size == 0
+
+
+def is_data_area(is_hidden, host_size, data_start, data_size, sector_size):
+    """The last header line, with E taken as V, for any Z."""
+    return (data_size >= 512 and all(is_multiple(size, sector_size) for size in (host_size, data_start, data_size))
             and (data_start >= 131_072 if is_hidden else data_start == 131_072)
             and data_start + data_size <= host_size - 131_072)
 
@@ -37,15 +46,16 @@ def first_broken(h, code, host_size):
         (5, is_version(h[64:68], number(h, 68, 2))),
         (6, flags & 0xFFFF_FFFC == 0 and not (is_vera and any(h[76:92] + h[132:252]))),
         (7, flags & 3 == 0),
-        (8, sector_size == 512),
+        (8, is_sector_size(sector_size)),
         (9, hidden_size != 0 and hidden_size == data_size if is_hidden else hidden_size == 0),
-        (10, encrypted_size == data_size and is_data_area(is_hidden, host_size, data_start, data_size)),
+        (10, encrypted_size == data_size
+         and is_data_area(is_hidden, host_size, data_start, data_size, sector_size)),
     ]
     return next((refusal for refusal, kept in lines if not kept), None)
 
 
 def open_volume(host_size, codes, candidates):
-    """A refusal number, or the layout: its eight numbers by name, in the order they are printed."""
+    """A refusal number, or the layout: its nine numbers by name, in the order they are printed."""
     if not 1 <= len(codes) <= 64 or len(candidates) != 512 * len(codes):
         return 1
     if max(codes) > 3:
@@ -68,6 +78,7 @@ def open_volume(host_size, codes, candidates):
                 'data_start': number(h, 108, 8),
                 'data_size': number(h, 100, 8),
                 'candidate': index,
+                'sector_size': number(h, 128, 4),
             }
         refusals.append(broken)
     return refusals[0] if refusals else 4
@@ -75,7 +86,7 @@ def open_volume(host_size, codes, candidates):
 
 def write_header(asked, output):
     """The answer to what is asked for, a refusal number or 'accepted', and the output as it is left."""
-    magic, code, host_size = asked['magic'], asked['code'], asked['host_size']
+    magic, code, host_size, sector_size = asked['magic'], asked['code'], asked['host_size'], asked['sector_size']
     if (len(asked['salt']), len(asked['keys']), len(output)) != (64, 256, 512):
         return 1, output
     if magic not in (b'VERA', b'TRUE'):
@@ -86,7 +97,9 @@ def write_header(asked, output):
         return 3, output
     if not is_version(magic, asked['version']):
         return 5, output
-    if not is_data_area(code in (1, 3), host_size, asked['data_start'], asked['data_size']):
+    if not is_sector_size(sector_size):
+        return 8, output
+    if not is_data_area(code in (1, 3), host_size, asked['data_start'], asked['data_size'], sector_size):
         return 10, output
     return 'accepted', new_header(asked)
 
@@ -105,7 +118,7 @@ def new_header(asked):
         asked['data_start'].to_bytes(8, 'big'),  # O
         data_size,  # E
         bytes(4),  # flags
-        (512).to_bytes(4, 'big'),  # Z
+        asked['sector_size'].to_bytes(4, 'big'),  # Z
         bytes(120),  # reserved
     ])
     return asked['salt'] + checked + zlib.crc32(checked).to_bytes(4, 'big') + asked['keys']
@@ -121,8 +134,9 @@ def locate(code, host_size):
 
 
 def is_sound(layout):
-    return (layout['kind'] in (0, 1) and is_host_size(layout['host_size'])
-            and is_data_area(layout['kind'] == 1, layout['host_size'], layout['data_start'], layout['data_size']))
+    return (layout['kind'] in (0, 1) and is_host_size(layout['host_size']) and is_sector_size(layout['sector_size'])
+            and is_data_area(layout['kind'] == 1, layout['host_size'], layout['data_start'], layout['data_size'],
+                             layout['sector_size']))
 
 
 def sector_count(layout):

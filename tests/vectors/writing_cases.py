@@ -1,16 +1,17 @@
 """The cases of writing headers: a name, the answer, and what is asked for."""
-from .headers import header, hidden, KEYS, OTHER_KEYS, SALT, SAMPLES, vera, vera_hidden
+from .headers import header, hidden, KEYS, LARGER_SIZES, OTHER_KEYS, SALT, SAMPLES, vera, vera_hidden
 from .openings import HOST
+from .sectors import WRONG_SECTOR_SIZES
 
 YES = 'accepted'
 
 
 def asked(magic=b'TRUE', version=5, min_program_version=1_792, code=0, host_size=HOST, data_start=131_072,
-          data_size=786_432, salt=SALT, keys=KEYS, output_size=512):
+          data_size=786_432, sector_size=512, salt=SALT, keys=KEYS, output_size=512):
     """The header of the worked cases' M, and with changes another one."""
     return {'magic': magic, 'version': version, 'min_program_version': min_program_version, 'code': code,
-            'host_size': host_size, 'data_start': data_start, 'data_size': data_size, 'salt': salt, 'keys': keys,
-            'output_size': output_size}
+            'host_size': host_size, 'data_start': data_start, 'data_size': data_size, 'sector_size': sector_size,
+            'salt': salt, 'keys': keys, 'output_size': output_size}
 
 
 def asked_hidden(**changes):
@@ -94,6 +95,49 @@ VERSIONS = [
     ('version 65535', 5, asked(version=65_535)),
 ]
 
+SECTOR_SIZES = [
+    *((f'Z {size}, {magic.decode()} code {code}', YES, make(magic=magic, code=code, sector_size=size))
+      for size in (512, 1_024, 2_048, 4_096) for magic in (b'TRUE', b'VERA')
+      for code, make in ((0, asked), (1, asked_hidden), (2, asked), (3, asked_hidden))),
+    *((f'Z {text}', 8, asked(sector_size=size)) for text, size in WRONG_SECTOR_SIZES),
+    ('Z 511', 8, asked(sector_size=511)),
+    ('Z 2049', 8, asked(magic=b'VERA', sector_size=2_049)),
+    ('Z 3072', 8, asked(sector_size=3_072)),
+    ('Z 4095', 8, asked(sector_size=4_095)),
+    ('Z 2^32-1', 8, asked(sector_size=2**32 - 1)),
+    ('Z 2^32', 8, asked(sector_size=2**32)),
+    ('Z 2^32+4096', 8, asked(sector_size=2**32 + 4_096)),
+    ('Z 2^63+512', 8, asked(sector_size=2**63 + 512)),
+    ('hidden, Z 0', 8, asked_hidden(sector_size=0)),
+    ('hidden backup, Z 2^32+512', 8, asked_hidden(magic=b'VERA', code=3, sector_size=2**32 + 512)),
+]
+
+# S, V and O held against Z.
+MULTIPLES = [
+    ('Z 512, S 512 more', YES, asked(host_size=HOST + 512)),
+    ('Z 512, V 512 less', YES, asked(data_size=785_920)),
+    ('Z 512, O 512 less', YES, asked_hidden(data_start=654_848)),
+    *((f'Z {size}, S 512 more', 10, asked(sector_size=size, host_size=HOST + 512)) for size in LARGER_SIZES),
+    *((f'Z {size}, V 512 less', 10, asked(sector_size=size, data_size=785_920)) for size in LARGER_SIZES),
+    *((f'Z {size}, O 512 less', 10, asked_hidden(sector_size=size, data_start=654_848))
+      for size in LARGER_SIZES),
+    *((f'Z {size}, S Z more', YES, asked(sector_size=size, host_size=HOST + size)) for size in LARGER_SIZES),
+    *((f'Z {size}, V Z less', YES, asked(sector_size=size, data_size=786_432 - size))
+      for size in LARGER_SIZES),
+    *((f'Z {size}, O Z less', YES, asked_hidden(sector_size=size, data_start=655_360 - size))
+      for size in LARGER_SIZES),
+    ('Z 4096, S 2048 more', 10, asked(magic=b'VERA', code=2, sector_size=4_096, host_size=HOST + 2_048)),
+    ('Z 4096, V 2048 less', 10, asked(magic=b'VERA', code=2, sector_size=4_096, data_size=784_384)),
+    ('Z 4096, O 2048 less', 10, asked_hidden(magic=b'VERA', code=3, sector_size=4_096, data_start=653_312)),
+    ('Z 4096, V 0', 10, asked(sector_size=4_096, data_size=0)),
+    ('Z 4096, V 512', 10, asked(sector_size=4_096, data_size=512)),
+    ('Z 4096, V 790528, 4096 past the end', 10, asked(sector_size=4_096, data_size=790_528)),
+    ('Z 4096, V 2^64-4096', 10, asked(sector_size=4_096, data_size=2**64 - 4_096)),
+    ('Z 4096, S 262656, V 512', 10, asked(sector_size=4_096, host_size=262_656, data_size=512)),
+    ('Z 4096, S 266240, V 4096', YES, asked(sector_size=4_096, host_size=266_240, data_size=4_096)),
+    ('Z 4096, S 2^50, largest V', YES, asked(sector_size=4_096, host_size=2**50, data_size=2**50 - 262_144)),
+]
+
 AREAS = [
     ('V 0', 10, asked(data_size=0)),
     ('V 511', 10, asked(data_size=511)),
@@ -124,7 +168,7 @@ AREAS = [
     ('hidden, O 2^64-131584, V 512', 10, asked_hidden(data_start=2**64 - 131_584, data_size=512)),
 ]
 
-# Each breaks two neighbours in the order of refusals, and the last all of them.
+# Each breaks two checks, neighbours in the order among them, and the last all of them.
 ORDER = [
     ('1 before 19, by the salt', 1, asked(salt=SALT[:63], magic=b'VERB')),
     ('1 before 19, by the keys', 1, asked(keys=KEYS[:255], magic=b'VERB')),
@@ -132,9 +176,19 @@ ORDER = [
     ('19 before 2', 19, asked(magic=b'VERB', code=4)),
     ('2 before 3', 2, asked(code=4, host_size=262_144)),
     ('3 before 5', 3, asked(host_size=262_144, version=6)),
+    ('3 before 8', 3, asked(host_size=262_144, sector_size=513)),
+    ('3 before 10, S no multiple of Z', 3, asked(host_size=HOST + 256, sector_size=4_096)),
+    ('5 before 8', 5, asked(version=6, sector_size=513)),
+    ('5 before 8, hidden', 5, asked_hidden(magic=b'VERA', version=1, sector_size=2**32 + 512)),
+    ('8 before 10', 8, asked(sector_size=513, data_size=0)),
+    ('8 before 10, hidden', 8, asked_hidden(sector_size=0, data_start=0)),
+    ('8 before 10, V no multiple of Z', 8, asked(sector_size=8_192, data_size=4_096)),
+    ('8 before 10, S no multiple of Z', 8, asked(sector_size=8_192, host_size=HOST + 512)),
     ('5 before 10', 5, asked(version=6, data_size=0)),
+    ('5 before 10, V no multiple of Z', 5, asked(version=6, sector_size=4_096, data_size=512)),
     ('5 before 10, hidden', 5, asked_hidden(magic=b'VERA', version=1, data_start=0)),
-    ('all at once', 1, asked(salt=SALT[:63], magic=b'VERB', code=4, host_size=262_144, version=6, data_size=0)),
+    ('all at once', 1,
+     asked(salt=SALT[:63], magic=b'VERB', code=4, host_size=262_144, version=6, sector_size=513, data_size=0)),
 ]
 
 UNUSED = [*range(76, 92), *range(132, 252)]
@@ -148,6 +202,8 @@ AGAIN = [
     ('VERA code 3', 3, vera_hidden(version=3, needs=b'\xff\x00', keys=OTHER_KEYS), []),
     ('TRUE code 0', 0, header(version=4, salt=bytes(64)), []),
     ('TRUE code 1', 1, hidden(data_start=131_072), []),
+    *((f'Z {size} code 0', 0, vera(sector_size=size), []) for size in LARGER_SIZES),
+    *((f'Z {size} code 3', 3, hidden(sector_size=size), []) for size in LARGER_SIZES),
     *((f'TRUE byte {at} not zero', 0, header(put={at: b'\1'}), [at]) for at in (76, 91, 132, 251)),
     ('TRUE unused bytes all FF', 0, header(put={at: b'\xff' for at in UNUSED}), UNUSED),
     ('TRUE hidden byte 251 not zero', 3, hidden(put={251: b'\1'}), [251]),

@@ -5,13 +5,14 @@ from .openings import answers as opening_answers, HOST
 from .records import Case, outcome, same, WRITE_HEADER
 from .reference_model import filled
 from .rules import new_header, open_volume, write_header
-from .writing_cases import AGAIN, AREAS, asked, CODES, HOST_SIZES, LENGTHS, MAGICS, ORDER, VERSIONS, WRITTEN, YES
+from .writing_cases import (AGAIN, AREAS, asked, CODES, HOST_SIZES, LENGTHS, MAGICS, MULTIPLES, ORDER, SECTOR_SIZES,
+                            VERSIONS, WRITTEN, YES)
 
 
 def taken_apart(code, h):
     """What an accepted header tells, to be asked for again."""
     told = open_volume(HOST, bytes([code]), h)
-    names = ('version', 'min_program_version', 'host_size', 'data_start', 'data_size')
+    names = ('version', 'min_program_version', 'host_size', 'data_start', 'data_size', 'sector_size')
     return asked(**{name: told[name] for name in names}, magic=h[64:68], code=code, salt=h[:64], keys=h[256:])
 
 
@@ -23,7 +24,7 @@ def check_again(name, h, written, lost):
 
 def cases():
     """Every case as name, answer and what is asked for."""
-    for table in (WRITTEN, LENGTHS, MAGICS, CODES, HOST_SIZES, VERSIONS, AREAS, ORDER):
+    for table in (WRITTEN, LENGTHS, MAGICS, CODES, HOST_SIZES, VERSIONS, SECTOR_SIZES, AREAS, MULTIPLES, ORDER):
         yield from table
     for name, code, h, lost in AGAIN:
         again = taken_apart(code, h)
@@ -36,12 +37,13 @@ def told_by(fields):
     return {'host_size': fields['host_size'], 'kind': [0, 1, 0, 1][fields['code']],
             'magic': [b'VERA', b'TRUE'].index(fields['magic']), 'version': fields['version'],
             'min_program_version': fields['min_program_version'], 'data_start': fields['data_start'],
-            'data_size': fields['data_size'], 'candidate': 0}
+            'data_size': fields['data_size'], 'candidate': 0, 'sector_size': fields['sector_size']}
 
 
 def numbers(fields, seed):
     """The numbers of a case's record."""
-    names = ('version', 'min_program_version', 'code', 'host_size', 'data_start', 'data_size', 'output_size')
+    names = ('version', 'min_program_version', 'code', 'host_size', 'data_start', 'data_size', 'sector_size',
+             'output_size')
     return [int.from_bytes(fields['magic'], 'big'), *(fields[name] for name in names), seed, len(fields['salt'])]
 
 
@@ -64,4 +66,4 @@ def writings():
             same(name, before, left)
         yield Case(WRITE_HEADER, f'header, {name}', answers(computed, left, opened), numbers(fields, seed),
                    fields['salt'] + fields['keys'])
-    assert given == {YES, 1, 19, 2, 3, 5, 10}
+    assert given == {YES, 1, 19, 2, 3, 5, 8, 10}

@@ -21,14 +21,16 @@ const DATA_START: usize = 7;
 
 const DATA_SIZE: usize = 8;
 
-const OUTPUT_SIZE: usize = 9;
+const SECTOR_SIZE: usize = 9;
 
-const SEED: usize = 10;
+const OUTPUT_SIZE: usize = 10;
 
-const SALT_SIZE: usize = 11;
+const SEED: usize = 11;
+
+const SALT_SIZE: usize = 12;
 
 // Where the salt begins. The keys are all that follows it.
-const SALT: usize = 12;
+const SALT: usize = 13;
 
 // A header, and a byte more, so that it can be passed too long.
 const OUTPUT_SPACE: usize = 513;
@@ -66,6 +68,7 @@ fn write(magic: &[u8; 4], body: &[u8], salt: &[u8], keys: &[u8], output: &mut [u
         input::number(body, HOST_SIZE),
         input::number(body, DATA_START),
         input::number(body, DATA_SIZE),
+        input::number(body, SECTOR_SIZE),
         salt,
         keys,
         output,

@@ -27,6 +27,7 @@ fn layout_from(numbers: &[u8]) -> Layout {
         data_start: input::number(numbers, 5),
         data_size: input::number(numbers, 6),
         candidate: input::number(numbers, 7),
+        sector_size: input::number(numbers, 8),
     }
 }
 

@@ -1,6 +1,7 @@
 // Records that ask for an opening: a host size, a count of location codes, the codes and the candidates.
 use crate::input;
 use crate::print;
+use crate::views;
 
 pub fn run(body: &[u8]) {
     let rest = input::after(body, 4);
@@ -10,14 +11,14 @@ pub fn run(body: &[u8]) {
 
 // Prints what opening answers, and the keys.
 pub fn open(candidates: &[u8], codes: &[u8], host_size: u64) {
-    let mut layout = [0u64; 8];
+    let mut layout = [0u64; views::LAYOUT_SIZE];
     let refusal = ondristela::ondristela_open(candidates, codes, host_size, &mut layout);
     print_layout(refusal, &layout);
     print_keys(opening::key_bytes(candidates, codes, host_size));
 }
 
 // The answer, and the layout as it is left: zeros where it is refused.
-fn print_layout(refusal: u64, layout: &[u64; 8]) {
+fn print_layout(refusal: u64, layout: &[u64; views::LAYOUT_SIZE]) {
     print::answer(refusal);
     print::numbers(layout);
 }

@@ -3,14 +3,14 @@ use crate::input;
 use crate::print;
 
 // The numbers of a view, and of a layout.
-pub const SIZE: usize = 12;
+pub const SIZE: usize = 13;
 
-const LAYOUT_SIZE: usize = 8;
+pub const LAYOUT_SIZE: usize = 9;
 
 // Where the numbers of one layout or of two, or of a view, begin.
 const FIRST: usize = 2;
 
-const SECOND: usize = 10;
+const SECOND: usize = FIRST + LAYOUT_SIZE;
 
 pub fn make_plain(view: &mut [u64; SIZE], body: &[u8]) {
     let mut layout = [0u64; LAYOUT_SIZE];

@@ -8,7 +8,7 @@ use crate::random::Random;
 
 const HOST_SIZES: [u64; 6] = [0, 262_144, 262_656, HOST_SIZE + 1, 1 << 50, (1 << 50) + 512];
 
-/// Compares the answers for every header that differs from one of three that are accepted in a single byte,
+/// Compares the answers for every header that differs from one of four that are accepted in a single byte,
 /// at each location, with checksums of the changed bytes and with those from before; and for sizes and
 /// lengths on either side of the rules.
 pub fn check() {
@@ -17,7 +17,9 @@ pub fn check() {
     hidden.copy_within(100..108, 92);
     let mut truecrypt = standard;
     truecrypt[64..68].copy_from_slice(b"TRUE");
-    for mut header in [standard, hidden, truecrypt] {
+    let mut larger_sectors = standard;
+    larger_sectors[128..132].copy_from_slice(&4_096_u32.to_be_bytes());
+    for mut header in [standard, hidden, truecrypt, larger_sectors] {
         headers::set_checksums(&mut header);
         check_changes(&header);
         for host_size in HOST_SIZES {
@@ -50,7 +52,7 @@ fn check_locations(header: &Header) {
 
 /// Compares the answers for some candidates.
 pub fn check_opening(candidates: &[u8], codes: &[u8], host_size: u64) {
-    let mut numbers = [0; 8];
+    let mut numbers = [0; 9];
     let answer = raw::open(candidates, codes, host_size, &mut numbers);
     match peer::open(candidates, codes, host_size) {
         Ok(layout) => assert_eq!((answer, numbers), (0, layout_numbers(&layout))),
@@ -68,5 +70,6 @@ fn layout_numbers(layout: &Layout) -> LayoutNumbers {
         layout.data_start,
         layout.data_size,
         layout.candidate as u64,
+        layout.sector_size,
     ]
 }

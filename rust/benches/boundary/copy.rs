@@ -29,8 +29,8 @@ pub fn sector_count(host_size: usize) -> u64 {
 /// A plain view of that volume.
 pub fn view(host_size: usize) -> ViewNumbers {
     let data_size = (host_size - 2 * DATA_START) as u64;
-    let layout = [host_size as u64, 0, 0, 5, 0, DATA_START as u64, data_size, 0];
-    let mut view = [0; 12];
+    let layout = [host_size as u64, 0, 0, 5, 0, DATA_START as u64, data_size, 0, 512];
+    let mut view = [0; 13];
     assert_eq!(raw::view_plain(&layout, &mut view), 0);
     view
 }

@@ -37,7 +37,7 @@ fn measure_case(report: &mut Report, case: &str, answer: u64, header: impl FnMut
     let candidates = (0..MAX_CANDIDATES).map(header).collect::<Vec<_>>().concat();
     let mut inputs = Inputs { candidates, codes: vec![0; MAX_CANDIDATES] };
     agreement::check_opening(&inputs.candidates, &inputs.codes, HOST_SIZE);
-    assert_eq!(raw::open(&inputs.candidates, &inputs.codes, HOST_SIZE, &mut [0; 8]), answer);
+    assert_eq!(raw::open(&inputs.candidates, &inputs.codes, HOST_SIZE, &mut [0; 9]), answer);
     let [ours, peer] = take_turns(&mut inputs, [open_ours, open_peer]);
     report.add(Row {
         series: "opening",
@@ -54,7 +54,7 @@ fn measure_case(report: &mut Report, case: &str, answer: u64, header: impl FnMut
 fn open_ours(inputs: &mut Inputs, calls: u64) {
     for _ in 0..calls {
         let Inputs { candidates, codes } = black_box(&*inputs);
-        let mut layout = [0; 8];
+        let mut layout = [0; 9];
         black_box(raw::open(candidates, codes, black_box(HOST_SIZE), &mut layout));
         black_box(&layout);
     }

@@ -27,6 +27,7 @@ pub struct Layout {
     pub data_start: u64,
     pub data_size: u64,
     pub candidate: usize,
+    pub sector_size: u64,
 }
 
 /// The layout of the first candidate that is accepted, or the refusal number.
@@ -73,7 +74,8 @@ fn judge(header: &[u8], kind: Kind, host_size: u64, candidate: usize) -> Result<
     if flags != 0 {
         return Err(7);
     }
-    if be32(header, 128) != 512 {
+    let sector_size = u64::from(be32(header, 128));
+    if ![512, 1_024, 2_048, 4_096].contains(&sector_size) {
         return Err(8);
     }
     let hidden_size = be64(header, 92);
@@ -85,11 +87,22 @@ fn judge(header: &[u8], kind: Kind, host_size: u64, candidate: usize) -> Result<
         return Err(9);
     }
     let data_start = be64(header, 108);
-    if be64(header, 116) != data_size || !fits(kind, host_size, data_start, data_size) {
+    let is_whole = [host_size, data_start, data_size].iter().all(|size| size % sector_size == 0);
+    if be64(header, 116) != data_size || !is_whole || !fits(kind, host_size, data_start, data_size) {
         return Err(10);
     }
     let min_program_version = u16::from_be_bytes([header[70], header[71]]);
-    Ok(Layout { host_size, kind, magic, version, min_program_version, data_start, data_size, candidate })
+    Ok(Layout {
+        host_size,
+        kind,
+        magic,
+        version,
+        min_program_version,
+        data_start,
+        data_size,
+        candidate,
+        sector_size,
+    })
 }
 
 fn reserved_are_zero(header: &[u8]) -> bool {
@@ -97,10 +110,7 @@ fn reserved_are_zero(header: &[u8]) -> bool {
 }
 
 fn fits(kind: Kind, host_size: u64, data_start: u64, data_size: u64) -> bool {
-    if data_size < SECTOR_SIZE || data_size % SECTOR_SIZE != 0 || data_start % SECTOR_SIZE != 0 {
-        return false;
-    }
-    if data_start < HEADERS_SIZE || kind == Kind::Standard && data_start != HEADERS_SIZE {
+    if data_size == 0 || data_start < HEADERS_SIZE || kind == Kind::Standard && data_start != HEADERS_SIZE {
         return false;
     }
     match data_start.checked_add(data_size) {

@@ -1,11 +1,11 @@
 //! Candidates: headers that are accepted, headers that are refused, and bytes that are no header.
 
 use super::changes;
-use super::hosts::sectors_between_headers;
+use super::hosts::{self, sectors_between_headers};
 use crate::reference::crc::crc32;
 use crate::reference::header::{CHECKED, HEADER_CHECKSUM, HEADER_SIZE};
 use crate::reference::headers::{write_checksums, write_header_checksum, write_keys_checksum, Header};
-use crate::reference::layout::{HEADERS_SIZE, HIDDEN, SECTOR};
+use crate::reference::layout::{HEADERS_SIZE, HIDDEN};
 use crate::reference::opening::kind_of_code;
 use crate::reference::random::Random;
 
@@ -13,11 +13,12 @@ pub type Candidate = [u8; HEADER_SIZE];
 
 /// A header that keeps every rule at this location and host size.
 pub fn accepted(code: u8, host_size: u64, random: &mut Random) -> Header {
-    let sectors = sectors_between_headers(host_size);
+    let sector_size = hosts::sector_size(host_size, random);
+    let sectors = sectors_between_headers(host_size, sector_size);
     let is_hidden = kind_of_code(code) == HIDDEN;
     let is_true = random.chance(50);
     let before = if is_hidden { boundary_or_below(sectors, random) } else { 0 };
-    let data_size = SECTOR * (1 + boundary_or_below(sectors - before, random));
+    let data_size = sector_size * (1 + boundary_or_below(sectors - before, random));
     let mut header = Header {
         salt: [0; 64],
         magic: if is_true { *b"TRUE" } else { *b"VERA" },
@@ -26,10 +27,10 @@ pub fn accepted(code: u8, host_size: u64, random: &mut Random) -> Header {
         reserved: [0; 16],
         hidden_size: if is_hidden { data_size } else { 0 },
         data_size,
-        data_start: HEADERS_SIZE + SECTOR * before,
+        data_start: HEADERS_SIZE + sector_size * before,
         encrypted_size: data_size,
         flags: 0,
-        sector_size: 512,
+        sector_size: sector_size as u32,
         reserved_late: [0; 120],
         keys: [0; 256],
     };

@@ -3,6 +3,7 @@
 use std::ops::Range;
 
 use super::candidates::Candidate;
+use super::hosts;
 use crate::reference::headers::Header;
 use crate::reference::layout::HEADERS_SIZE;
 use crate::reference::random::Random;
@@ -12,7 +13,7 @@ pub fn change_field(header: &mut Header, host_size: u64, random: &mut Random) {
     match random.below(12) {
         0 => header.version = version(random),
         1 => header.flags = flags(random),
-        2 => header.sector_size = sector_size(random),
+        2 => header.sector_size = hosts::any_sector_size(random) as u32,
         3 => header.hidden_size = beside(header.data_size, random),
         4 => header.encrypted_size = beside(header.data_size, random),
         5 => header.data_size = beside(header.data_size, random),
@@ -49,10 +50,6 @@ fn flags(random: &mut Random) -> u32 {
     }
 }
 
-fn sector_size(random: &mut Random) -> u32 {
-    random.pick(&[0, 1, 2, 256, 511, 513, 1_024, 2_048, 4_096, 512 << 8, 512 << 16, 1 << 31, u32::MAX])
-}
-
 /// A size close to another one, or far from it.
 fn beside(size: u64, random: &mut Random) -> u64 {
     let any = random.of_any_size();
@@ -65,6 +62,7 @@ fn beside(size: u64, random: &mut Random) -> u64 {
         size.wrapping_sub(1),
         size.wrapping_add(512),
         size.wrapping_sub(512),
+        size.wrapping_sub(4_096),
         size.wrapping_add(1 << 32),
         size.swap_bytes(),
         u64::MAX,
@@ -93,10 +91,14 @@ pub fn data_size(data_start: u64, host_size: u64, random: &mut Random) -> u64 {
         512,
         513,
         1_024,
+        4_096,
         largest,
         largest + 1,
         largest.wrapping_sub(1),
         largest + 512,
+        largest.wrapping_sub(512),
+        largest.wrapping_sub(1_024),
+        largest.wrapping_sub(4_096),
         largest + HEADERS_SIZE,
         largest + 2 * HEADERS_SIZE,
         0u64.wrapping_sub(512),
@@ -124,10 +126,13 @@ pub fn data_start(data_size: u64, host_size: u64, random: &mut Random) -> u64 {
         HEADERS_SIZE + 1,
         HEADERS_SIZE + 256,
         HEADERS_SIZE + 512,
+        HEADERS_SIZE + 4_096,
         2 * HEADERS_SIZE,
         latest,
         latest + 1,
         latest + 512,
+        latest.wrapping_sub(512),
+        latest.wrapping_sub(1_024),
         0u64.wrapping_sub(HEADERS_SIZE),
         0u64.wrapping_sub(data_size),
         0u64.wrapping_sub(512),

@@ -1,7 +1,7 @@
 //! How often each answer was reached, so that a test is known to try what it is about.
 
-/// The answers are 0 and the refusals 1 to 19.
-const ANSWERS: usize = 20;
+/// The answers are 0 and the refusals 1 to 20.
+const ANSWERS: usize = 21;
 
 pub struct Coverage {
     of: &'static str,

@@ -40,7 +40,7 @@ impl HeaderWriting {
 
     fn by_library(&self, header: &mut [u8]) -> u64 {
         let NewHeader { magic, version, min_program_version, code, .. } = &self.asked;
-        let NewHeader { host_size, data_start, data_size, salt, keys, .. } = &self.asked;
+        let NewHeader { host_size, data_start, data_size, sector_size, salt, keys, .. } = &self.asked;
         raw::write_header(
             magic,
             *version,
@@ -49,6 +49,7 @@ impl HeaderWriting {
             *host_size,
             *data_start,
             *data_size,
+            *sector_size,
             salt,
             keys,
             header,
@@ -68,9 +69,10 @@ impl HeaderWriting {
 impl fmt::Debug for HeaderWriting {
     fn fmt(&self, out: &mut fmt::Formatter) -> fmt::Result {
         let NewHeader { magic, version, min_program_version, code, .. } = &self.asked;
-        let NewHeader { host_size, data_start, data_size, salt, keys, .. } = &self.asked;
+        let NewHeader { host_size, data_start, data_size, sector_size, salt, keys, .. } = &self.asked;
         let (magic, lengths) = (magic.escape_ascii(), [salt.len(), keys.len(), self.header_size]);
         write!(out, "{magic} version {version} needs {min_program_version} code {code}")?;
-        write!(out, ", host {host_size} start {data_start} size {data_size}, lengths {lengths:?}")
+        write!(out, ", host {host_size} start {data_start} size {data_size}, sectors of {sector_size}")?;
+        write!(out, ", lengths {lengths:?}")
     }
 }

@@ -1,7 +1,7 @@
 //! Layouts that a caller may make up: sound ones, and ones with a rule broken.
 
 use super::hosts::{self, sectors_between_headers};
-use crate::reference::layout::{Layout, HEADERS_SIZE, HIDDEN, SECTOR, STANDARD};
+use crate::reference::layout::{Layout, HEADERS_SIZE, HIDDEN, SECTOR_SIZES, STANDARD};
 use crate::reference::random::Random;
 
 /// A sound layout on a host of any allowed size.
@@ -10,10 +10,17 @@ pub fn sound(random: &mut Random) -> Layout {
     sound_on(host_size, random)
 }
 
-/// A sound layout on this host. The numbers that soundness does not look at may be anything.
+/// A sound layout on this host.
 pub fn sound_on(host_size: u64, random: &mut Random) -> Layout {
+    let sector_size = hosts::sector_size(host_size, random);
+    sound_of(host_size, sector_size, random)
+}
+
+/// A sound layout on this host, which is made of such sectors of its disk. The numbers that soundness does not look
+/// at may be anything.
+fn sound_of(host_size: u64, sector_size: u64, random: &mut Random) -> Layout {
     let kind = random.pick(&[STANDARD, HIDDEN]);
-    let sectors = sectors_between_headers(host_size);
+    let sectors = sectors_between_headers(host_size, sector_size);
     let before = if kind == HIDDEN && random.chance(80) { random.below(sectors) } else { 0 };
     let largest = sectors - before;
     let count = if random.chance(40) { largest } else { random.between(1, largest) };
@@ -23,18 +30,20 @@ pub fn sound_on(host_size: u64, random: &mut Random) -> Layout {
         magic: random.pick(&[0, 1, 2, u64::MAX]),
         version: random.of_any_size(),
         min_program_version: random.of_any_size(),
-        data_start: HEADERS_SIZE + SECTOR * before,
-        data_size: SECTOR * count,
+        data_start: HEADERS_SIZE + sector_size * before,
+        data_size: sector_size * count,
         candidate: random.of_any_size(),
+        sector_size,
     }
 }
 
 /// Changes one of the numbers that soundness looks at, mostly so that one rule is broken.
 pub fn change_one_number(layout: &mut Layout, random: &mut Random) {
-    match random.below(4) {
+    match random.below(5) {
         0 => layout.host_size = host_size(layout, random),
         1 => layout.kind = kind(random),
         2 => layout.data_start = data_start(layout, random),
+        3 => layout.sector_size = hosts::any_sector_size(random),
         _ => layout.data_size = data_size(layout, random),
     }
 }
@@ -42,7 +51,7 @@ pub fn change_one_number(layout: &mut Layout, random: &mut Random) {
 fn host_size(layout: &Layout, random: &mut Random) -> u64 {
     let least = layout.data_start + layout.data_size + HEADERS_SIZE;
     if random.chance(40) {
-        return random.pick(&[least - 1, least - 512, least - 256, least, least + 1]);
+        return random.pick(&[least - 1, least - 512, least - 256, least, least + 1, least + 512]);
     }
     random.pick(&hosts::WRONG)
 }
@@ -63,6 +72,7 @@ fn data_start(layout: &Layout, random: &mut Random) -> u64 {
         HEADERS_SIZE + 1,
         HEADERS_SIZE + 512,
         layout.data_start + 256,
+        layout.data_start + 512,
         latest,
         latest + 1,
         latest + 512,
@@ -85,8 +95,10 @@ fn data_size(layout: &Layout, random: &mut Random) -> u64 {
         511,
         512,
         513,
+        layout.sector_size,
         largest - 1,
         largest - 256,
+        largest - 512,
         largest,
         largest + 1,
         largest + 512,
@@ -102,33 +114,31 @@ fn data_size(layout: &Layout, random: &mut Random) -> u64 {
 /// An outer and a hidden layout, mostly a pair that nests.
 pub fn pair(random: &mut Random) -> [Layout; 2] {
     let host_size = hosts::allowed(random);
-    let mut outer = nearly(STANDARD, host_size, random);
-    let mut hidden = nearly(HIDDEN, host_size, random);
-    match random.below(10) {
+    let sector_size = hosts::sector_size(host_size, random);
+    let [mut outer, mut hidden] =
+        [STANDARD, HIDDEN].map(|kind| Layout { kind, ..sound_of(host_size, sector_size, random) });
+    outer.data_start = HEADERS_SIZE;
+    match random.below(12) {
         0 => hidden = sound(random),
         1 => outer.kind = HIDDEN,
         2 => change_one_number(&mut outer, random),
         3 => change_one_number(&mut hidden, random),
         4 => hidden = Layout { kind: HIDDEN, ..outer },
         5..=7 => fit(&outer, &mut hidden, random),
+        8 | 9 => {
+            fit(&outer, &mut hidden, random);
+            hidden.sector_size = random.pick(&SECTOR_SIZES);
+        }
         _ => {}
     }
     [outer, hidden]
 }
 
-fn nearly(kind: u64, host_size: u64, random: &mut Random) -> Layout {
-    let mut layout = sound_on(host_size, random);
-    if kind == STANDARD {
-        layout.data_start = HEADERS_SIZE;
-    }
-    layout.kind = kind;
-    layout
-}
-
-/// Moves the hidden data area so that it ends at the outer's end, or a sector before it or past it.
+/// Moves the hidden data area so that it ends at the outer's end, or a sector of the disk's before it or past it.
 fn fit(outer: &Layout, hidden: &mut Layout, random: &mut Random) {
-    let sectors = outer.sector_count();
+    let sectors = outer.data_size / outer.sector_size;
     let before = random.below(sectors);
-    hidden.data_start = HEADERS_SIZE + SECTOR * before;
-    hidden.data_size = SECTOR * (sectors - before + random.pick(&[0, 0, 1])) - SECTOR * random.below(2);
+    let count = sectors - before + random.pick(&[0, 0, 1]) - random.below(2);
+    hidden.data_start = HEADERS_SIZE + outer.sector_size * before;
+    hidden.data_size = outer.sector_size * count;
 }

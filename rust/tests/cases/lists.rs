@@ -4,9 +4,8 @@
 use std::fmt;
 
 use super::extents;
-use super::hosts::sectors_between_headers;
 use crate::reference::access::{self, Extent, View};
-use crate::reference::layout::{Layout, HEADERS_SIZE, HIDDEN, MIN_HOST_SIZE, SECTOR, STANDARD};
+use crate::reference::layout::{Layout, HEADERS_SIZE, HIDDEN, SECTOR, STANDARD};
 use crate::reference::model::{Call, INNER, OUTER};
 use crate::reference::random::Random;
 
@@ -21,8 +20,9 @@ pub struct Lists {
 const MAX_CALLS: u64 = 12;
 
 impl Lists {
-    pub fn new(random: &mut Random) -> Lists {
-        let layouts = nested(random);
+    /// Lists of calls on a disk with sectors of this size.
+    pub fn new(sector_size: u64, random: &mut Random) -> Lists {
+        let layouts = nested(sector_size, random);
         let locks = [random.pick(&[0, 0, 0, 1]), random.pick(&[0, 0, 0, 0, 1, 7])];
         let calls = [calls_on(&layouts, OUTER, random), calls_on(&layouts, INNER, random)];
         Lists { layouts, locks, image: image(layouts[OUTER].host_size, random), calls }
@@ -77,24 +77,25 @@ fn call_summary(call: &Call) -> String {
     format!("{kind} {} count {} buffer {}", call.extent.first, call.extent.count, call.buffer.len())
 }
 
-/// An outer and a hidden layout that nest, on a host with few sectors of data area.
-fn nested(random: &mut Random) -> [Layout; 2] {
-    let host_size = MIN_HOST_SIZE + SECTOR * random.between(0, 40);
-    let outer_sectors = random.between(1, sectors_between_headers(host_size));
+/// An outer and a hidden layout that nest, on a host with few sectors of data area, which are the disk's.
+fn nested(sector_size: u64, random: &mut Random) -> [Layout; 2] {
+    let sectors = random.between(1, 8 + 32 * SECTOR / sector_size);
+    let outer_sectors = random.between(1, sectors);
     let before = random.below(outer_sectors);
     let hidden_sectors = random.between(1, outer_sectors - before);
     let outer = Layout {
-        host_size,
+        host_size: 2 * HEADERS_SIZE + sector_size * sectors,
         kind: STANDARD,
         magic: random.below(2),
         version: 5,
         min_program_version: 0x0700,
         data_start: HEADERS_SIZE,
-        data_size: SECTOR * outer_sectors,
+        data_size: sector_size * outer_sectors,
         candidate: random.below(64),
+        sector_size,
     };
-    let data_start = HEADERS_SIZE + SECTOR * before;
-    [outer, Layout { kind: HIDDEN, data_start, data_size: SECTOR * hidden_sectors, ..outer }]
+    let (data_start, data_size) = (HEADERS_SIZE + sector_size * before, sector_size * hidden_sectors);
+    [outer, Layout { kind: HIDDEN, data_start, data_size, ..outer }]
 }
 
 /// An image of random bytes, now and then of another size than the host's.
@@ -113,13 +114,15 @@ fn calls_on(layouts: &[Layout; 2], side: usize, random: &mut Random) -> Vec<Call
 }
 
 fn call(layouts: &[Layout; 2], side: usize, avoids_hidden: bool, random: &mut Random) -> Call {
-    let sectors = layouts[side].sector_count();
+    let unit = if random.chance(85) { extents::disk_unit(&layouts[side]) } else { 1 };
+    let units = layouts[side].sector_count() / unit;
     let writes = random.chance(60);
     let extent = match random.below(10) {
-        0 => extents::for_sectors(sectors, random),
-        _ if side == OUTER && writes && avoids_hidden => outside_hidden(layouts, random),
-        _ => short(extents::inside(sectors, random), random),
+        0 => extents::for_units(units, unit, random),
+        _ if side == OUTER && writes && avoids_hidden => outside_hidden(layouts, unit, random),
+        _ => short(extents::inside(units, unit, random), random),
     };
+    let extent = extents::scaled(extent, unit);
     let mut buffer = vec![0; extents::buffer_size(extent.count, 2 * 65_536, random)];
     random.fill(&mut buffer);
     Call { writes, extent, buffer, sector: random.number() }
@@ -129,14 +132,14 @@ fn short(extent: Extent, random: &mut Random) -> Extent {
     Extent { first: extent.first, count: extent.count.min(random.between(0, 6)) }
 }
 
-/// An extent of the outer volume before the hidden data area or behind it.
-fn outside_hidden(layouts: &[Layout; 2], random: &mut Random) -> Extent {
+/// An extent in units of the outer volume, before the hidden data area or behind it.
+fn outside_hidden(layouts: &[Layout; 2], unit: u64, random: &mut Random) -> Extent {
     let [outer, hidden] = layouts;
-    let before = (hidden.data_start - outer.data_start) / SECTOR;
-    let behind = before + hidden.sector_count();
+    let before = (hidden.data_start - outer.data_start) / (SECTOR * unit);
+    let behind = before + hidden.sector_count() / unit;
     if random.chance(50) {
-        return short(extents::inside(before, random), random);
+        return short(extents::inside(before, unit, random), random);
     }
-    let extent = short(extents::inside(outer.sector_count() - behind, random), random);
+    let extent = short(extents::inside(outer.sector_count() / unit - behind, unit, random), random);
     Extent { first: behind + extent.first, count: extent.count }
 }

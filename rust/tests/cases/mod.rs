@@ -3,6 +3,8 @@
 // Each test file uses a part of it.
 #![allow(dead_code)]
 
+pub mod accesses;
+pub mod calls;
 pub mod candidates;
 pub mod changes;
 pub mod coverage;

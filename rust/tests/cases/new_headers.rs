@@ -27,12 +27,13 @@ pub fn changed(random: &mut Random) -> HeaderWriting {
 /// Changes what one rule looks at. The data area's edges are those in a host of this size, which is allowed.
 fn change_one(writing: &mut HeaderWriting, host_size: u64, random: &mut Random) {
     let asked = &mut writing.asked;
-    match random.below(7) {
+    match random.below(8) {
         0 => change_length(writing, random),
         1 => asked.magic = magic(random),
         2 => asked.code = code(random),
         3 => asked.host_size = host_size_beside(asked, random),
         4 => asked.version = changes::version(random),
+        5 => asked.sector_size = hosts::any_sector_size(random),
         _ => change_area(asked, host_size, random),
     }
 }
@@ -64,10 +65,11 @@ fn host_size_beside(asked: &NewHeader, random: &mut Random) -> u64 {
     let end = asked.data_start.wrapping_add(asked.data_size).wrapping_add(HEADERS_SIZE);
     let beside =
         [end, end.wrapping_sub(1), end.wrapping_add(1), end.wrapping_sub(512), end.wrapping_add(512)];
-    match random.below(5) {
+    match random.below(6) {
         0 => random.pick(&beside),
         1 => random.pick(&hosts::ALLOWED),
-        _ => random.pick(&hosts::WRONG),
+        2 => random.pick(&hosts::WRONG),
+        _ => random.pick(&hosts::TOO_LARGE),
     }
 }
 

@@ -5,6 +5,7 @@ use std::fmt;
 use super::candidates::{accepted, changed, spoiled, Candidate};
 use super::hosts;
 use crate::reference::header::{first_failing_line, is_header, HEADER_SIZE};
+use crate::reference::layout::MAX_HOST_SIZE;
 use crate::reference::opening::kind_of_code;
 use crate::reference::random::Random;
 
@@ -38,7 +39,8 @@ fn code(random: &mut Random) -> u8 {
     random.below(4) as u8
 }
 
-/// One candidate: accepted, changed or spoiled; sometimes judged for a location that it wasn't made for.
+/// One candidate: accepted, changed or spoiled; sometimes judged for a location that it wasn't made for, or in a host
+/// that is a little larger.
 pub fn single(random: &mut Random) -> Opening {
     let host_size = hosts::allowed(random);
     let made_for = code(random);
@@ -48,7 +50,13 @@ pub fn single(random: &mut Random) -> Opening {
         _ => changed(made_for, host_size, random),
     };
     let judged_for = if random.chance(5) { code(random) } else { made_for };
-    Opening::of_one(&candidate, judged_for, host_size)
+    let judged_in = if random.chance(10) { larger(host_size, random) } else { host_size };
+    Opening::of_one(&candidate, judged_for, judged_in)
+}
+
+/// A host with some sectors more, so that it may no longer be made of the disk's.
+fn larger(host_size: u64, random: &mut Random) -> u64 {
+    MAX_HOST_SIZE.min(host_size + random.pick(&[512, 1_024, 2_048, 4_096]))
 }
 
 /// From 1 to 64 candidates. Each list has its own share of headers and of accepted ones, none included.

@@ -2,11 +2,11 @@
 
 use super::layouts;
 use crate::reference::access::View;
-use crate::reference::layout::{Layout, MIN_HOST_SIZE, SECTOR, STANDARD};
+use crate::reference::layout::{Layout, HEADERS_SIZE, SECTOR, SECTOR_SIZES, STANDARD};
 use crate::reference::random::Random;
 
 /// The largest host of these views: its data area holds more sectors than a call may name.
-pub const MAX_HOST_SIZE: usize = (MIN_HOST_SIZE + 139 * SECTOR) as usize;
+pub const MAX_HOST_SIZE: usize = (2 * HEADERS_SIZE + 144 * SECTOR) as usize;
 
 /// A view that is mostly sound.
 pub fn view(random: &mut Random) -> View {
@@ -23,9 +23,11 @@ pub fn view(random: &mut Random) -> View {
     view
 }
 
+/// The host is made of sectors that may be larger than ours, and has at least one between its headers.
 fn host_size(random: &mut Random) -> u64 {
-    let more_sectors = if random.chance(85) { random.below(20) } else { random.below(140) };
-    MIN_HOST_SIZE + SECTOR * more_sectors
+    let sectors = if random.chance(85) { random.below(20) } else { random.below(140) };
+    let sector_size = random.pick(&SECTOR_SIZES);
+    2 * HEADERS_SIZE + sector_size * (1 + SECTOR * sectors / sector_size)
 }
 
 /// A range that is protected, or numbers of a range that is not.

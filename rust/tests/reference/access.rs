@@ -7,6 +7,8 @@ use super::sector_map::host_sector;
 
 pub const MAX_COUNT: u64 = 128;
 
+pub type ViewNumbers = [u64; 13];
+
 /// A view as a caller may make it up. `protected` 0 is no range and `write_lock` 0 is open; any other
 /// number is a range, and closed.
 #[derive(Clone, Copy, Debug, PartialEq, Eq)]
@@ -52,13 +54,13 @@ impl Answer {
 }
 
 impl View {
-    pub fn numbers(&self) -> [u64; 12] {
-        let mut numbers = [0; 12];
-        numbers[..8].copy_from_slice(&self.layout.numbers());
-        numbers[8] = self.protected;
-        numbers[9] = self.protected_start;
-        numbers[10] = self.protected_end;
-        numbers[11] = self.write_lock;
+    pub fn numbers(&self) -> ViewNumbers {
+        let mut numbers = [0; 13];
+        numbers[..9].copy_from_slice(&self.layout.numbers());
+        numbers[9] = self.protected;
+        numbers[10] = self.protected_start;
+        numbers[11] = self.protected_end;
+        numbers[12] = self.write_lock;
         numbers
     }
 
@@ -111,6 +113,7 @@ fn nests(outer: &Layout, hidden: &Layout) -> bool {
     outer.kind == STANDARD
         && hidden.kind == HIDDEN
         && outer.host_size == hidden.host_size
+        && outer.sector_size == hidden.sector_size
         && outer.data_start <= hidden.data_start
         && hidden.data_end() <= outer.data_end()
 }
@@ -129,10 +132,20 @@ pub fn answer(view: &View, image_size: usize, extent: Extent, buffer_size: usize
     if buffer_size as u128 != u128::from(SECTOR) * u128::from(extent.count) {
         return Answer::silent(15);
     }
+    if !is_of_whole_sectors(&view.layout, extent) {
+        return Answer::silent(20);
+    }
     if u128::from(extent.first) + u128::from(extent.count) > u128::from(view.layout.sector_count()) {
         return Answer::telling(16, first_outside(&view.layout, extent));
     }
     Answer::ACCEPTED
+}
+
+/// The extent's bytes, counted from the data area's start, begin and end between two of the disk's own sectors.
+fn is_of_whole_sectors(layout: &Layout, extent: Extent) -> bool {
+    let start = u128::from(SECTOR) * u128::from(extent.first);
+    let end = start + u128::from(SECTOR) * u128::from(extent.count);
+    [start, end].iter().all(|byte| byte % u128::from(layout.sector_size) == 0)
 }
 
 /// The checks of a write: those, then 17 and 18.

@@ -4,7 +4,7 @@
 use std::ops::Range;
 
 use super::crc::crc32;
-use super::layout::{data_area_allowed, Layout, STANDARD};
+use super::layout::{sector_size_allowed, DataArea, Layout, STANDARD};
 
 pub const HEADER_SIZE: usize = 512;
 
@@ -59,9 +59,9 @@ pub fn first_failing_line(candidate: &[u8], kind: u64, host_size: u64) -> Option
         (5, version_holds(candidate)),
         (6, reserved_holds(candidate)),
         (7, field(candidate, FLAGS) % 4 == 0),
-        (8, field(candidate, SECTOR_SIZE) == 512),
+        (8, sector_size_allowed(field(candidate, SECTOR_SIZE))),
         (9, hidden_size_holds(candidate, kind)),
-        (10, data_area_holds(candidate, kind, host_size)),
+        (10, data_area(candidate, host_size).is_allowed(kind)),
     ];
     lines.into_iter().find(|(_, holds)| !holds).map(|(number, _)| number)
 }
@@ -95,14 +95,14 @@ fn hidden_size_holds(candidate: &[u8], kind: u64) -> bool {
     }
 }
 
-fn data_area_holds(candidate: &[u8], kind: u64, host_size: u64) -> bool {
-    data_area_allowed(
-        kind,
-        field(candidate, DATA_START),
-        field(candidate, DATA_SIZE),
-        field(candidate, ENCRYPTED_SIZE),
+fn data_area(candidate: &[u8], host_size: u64) -> DataArea {
+    DataArea {
+        start: field(candidate, DATA_START),
+        size: field(candidate, DATA_SIZE),
+        encrypted_size: field(candidate, ENCRYPTED_SIZE),
         host_size,
-    )
+        sector_size: field(candidate, SECTOR_SIZE),
+    }
 }
 
 /// What an accepted candidate tells.
@@ -116,5 +116,6 @@ pub fn layout(candidate: &[u8], kind: u64, host_size: u64, index: usize) -> Layo
         data_start: field(candidate, DATA_START),
         data_size: field(candidate, DATA_SIZE),
         candidate: index as u64,
+        sector_size: field(candidate, SECTOR_SIZE),
     }
 }

@@ -2,7 +2,7 @@
 
 use super::header::{version_allowed, HEADER_SIZE, KEYS, SALT};
 use super::headers::Header;
-use super::layout::{data_area_allowed, host_size_allowed, HIDDEN};
+use super::layout::{host_size_allowed, sector_size_allowed, DataArea, HIDDEN};
 use super::opening::kind_of_code;
 
 /// What a caller asks for. Anything may be made up, and salt and keys may be of any length.
@@ -15,6 +15,7 @@ pub struct NewHeader {
     pub host_size: u64,
     pub data_start: u64,
     pub data_size: u64,
+    pub sector_size: u64,
     pub salt: Vec<u8>,
     pub keys: Vec<u8>,
 }
@@ -30,6 +31,7 @@ impl NewHeader {
             host_size,
             data_start: header.data_start,
             data_size: header.data_size,
+            sector_size: header.sector_size.into(),
             salt: header.salt.to_vec(),
             keys: header.keys.to_vec(),
         }
@@ -43,7 +45,8 @@ impl NewHeader {
             (2, self.code <= 3),
             (3, host_size_allowed(self.host_size)),
             (5, version_allowed(&self.magic, self.version.into())),
-            (10, self.data_area_holds()),
+            (8, sector_size_allowed(self.sector_size)),
+            (10, self.data_area().is_allowed(kind_of_code(self.code))),
         ];
         rules.into_iter().filter(|(_, holds)| !holds).map(|(number, _)| number).collect()
     }
@@ -52,9 +55,14 @@ impl NewHeader {
         self.salt.len() == SALT.len() && self.keys.len() == KEYS.len() && header_size == HEADER_SIZE
     }
 
-    fn data_area_holds(&self) -> bool {
-        let kind = kind_of_code(self.code);
-        data_area_allowed(kind, self.data_start, self.data_size, self.data_size, self.host_size)
+    fn data_area(&self) -> DataArea {
+        DataArea {
+            start: self.data_start,
+            size: self.data_size,
+            encrypted_size: self.data_size,
+            host_size: self.host_size,
+            sector_size: self.sector_size,
+        }
     }
 
     /// The fields, where no rule is broken. Those that nothing is asked for are zero.
@@ -71,7 +79,7 @@ impl NewHeader {
             data_start: self.data_start,
             encrypted_size: self.data_size,
             flags: 0,
-            sector_size: 512,
+            sector_size: self.sector_size.try_into().expect("one of the four sizes"),
             reserved_late: [0; 120],
             keys: self.keys[..].try_into().expect("256 bytes"),
         }

@@ -9,6 +9,11 @@ pub const HEADERS_SIZE: u64 = 131_072;
 pub const MIN_HOST_SIZE: u64 = 262_656;
 pub const MAX_HOST_SIZE: u64 = 1 << 50;
 
+/// The sizes that the disk's own sectors may have.
+pub const SECTOR_SIZES: [u64; 4] = [512, 1_024, 2_048, 4_096];
+
+pub type LayoutNumbers = [u64; 9];
+
 #[derive(Clone, Copy, Debug, PartialEq, Eq)]
 pub struct Layout {
     pub host_size: u64,
@@ -19,16 +24,11 @@ pub struct Layout {
     pub data_start: u64,
     pub data_size: u64,
     pub candidate: u64,
+    pub sector_size: u64,
 }
 
 impl Layout {
-    pub fn from_numbers(numbers: &[u64; 8]) -> Layout {
-        let [host_size, kind, magic, version, min_program_version, data_start, data_size, candidate] =
-            *numbers;
-        Layout { host_size, kind, magic, version, min_program_version, data_start, data_size, candidate }
-    }
-
-    pub fn numbers(&self) -> [u64; 8] {
+    pub fn numbers(&self) -> LayoutNumbers {
         [
             self.host_size,
             self.kind,
@@ -38,14 +38,27 @@ impl Layout {
             self.data_start,
             self.data_size,
             self.candidate,
+            self.sector_size,
         ]
     }
 
-    /// Sound: the host-size rule and the data-area rule hold, the encrypted size taken as the data size.
+    /// Sound: the rules for the host's size, the disk's sectors and the data area hold.
     pub fn is_sound(&self) -> bool {
         self.kind <= HIDDEN
             && host_size_allowed(self.host_size)
-            && data_area_allowed(self.kind, self.data_start, self.data_size, self.data_size, self.host_size)
+            && sector_size_allowed(self.sector_size)
+            && self.data_area().is_allowed(self.kind)
+    }
+
+    /// The encrypted size is taken as the data size.
+    fn data_area(&self) -> DataArea {
+        DataArea {
+            start: self.data_start,
+            size: self.data_size,
+            encrypted_size: self.data_size,
+            host_size: self.host_size,
+            sector_size: self.sector_size,
+        }
     }
 
     pub fn sector_count(&self) -> u64 {
@@ -62,21 +75,42 @@ pub fn host_size_allowed(host_size: u64) -> bool {
     host_size % SECTOR == 0 && (MIN_HOST_SIZE..=MAX_HOST_SIZE).contains(&host_size)
 }
 
-/// The last line of an accepted header. The sums are whole numbers: they never wrap.
-pub fn data_area_allowed(
-    kind: u64,
-    data_start: u64,
-    data_size: u64,
-    encrypted_size: u64,
-    host_size: u64,
-) -> bool {
-    let data_end = u128::from(data_start) + u128::from(data_size);
-    let fits_host = data_end + u128::from(HEADERS_SIZE) <= u128::from(host_size);
-    let starts_right = if kind == STANDARD { data_start == HEADERS_SIZE } else { data_start >= HEADERS_SIZE };
-    data_size >= SECTOR
-        && data_size % SECTOR == 0
-        && data_start % SECTOR == 0
-        && encrypted_size == data_size
-        && starts_right
-        && fits_host
+/// The rule for the disk's own sectors.
+pub fn sector_size_allowed(sector_size: u64) -> bool {
+    SECTOR_SIZES.contains(&sector_size)
+}
+
+/// What the last line of an accepted header looks at.
+pub struct DataArea {
+    pub start: u64,
+    pub size: u64,
+    pub encrypted_size: u64,
+    pub host_size: u64,
+    pub sector_size: u64,
+}
+
+impl DataArea {
+    /// The last line of an accepted header, for a kind.
+    pub fn is_allowed(&self, kind: u64) -> bool {
+        let starts_right =
+            if kind == STANDARD { self.start == HEADERS_SIZE } else { self.start >= HEADERS_SIZE };
+        self.size >= SECTOR
+            && self.encrypted_size == self.size
+            && self.is_of_whole_sectors()
+            && starts_right
+            && self.fits_host()
+    }
+
+    /// The data area and the host are both made of whole sectors of the disk's. A size of those that is not allowed
+    /// breaks a rule of its own; for this one they are then taken as the smallest.
+    fn is_of_whole_sectors(&self) -> bool {
+        let unit = if sector_size_allowed(self.sector_size) { self.sector_size } else { SECTOR };
+        [self.start, self.size, self.host_size].iter().all(|size| size % unit == 0)
+    }
+
+    /// The sum is a whole number: it never wraps.
+    fn fits_host(&self) -> bool {
+        let parts = [self.start, self.size, HEADERS_SIZE];
+        parts.map(u128::from).iter().sum::<u128>() <= u128::from(self.host_size)
+    }
 }
