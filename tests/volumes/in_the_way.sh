@@ -29,7 +29,7 @@ in_the_way 'a write of three calls' 18 "$first" '299 sectors (153,088 bytes) of 
 says 'its extent' 'asked for: outer sector 725, count 300'
 says 'its range' 'protected: outer sectors 1,024 to 1,535'
 # The manual page shows this message, with a line folded.
-shown=$(sed -n '/^asked for: /,/^before it: /p' "$root/man/volumes.1" | tr -s ' \n' ' ')
+shown=$(sed -n '/^asked for: /,/^before it: /p; /^before it: /q' "$root/man/volumes.1" | tr -s ' \n' ' ')
 tr -s ' \n' ' ' <"$work/said" >unfolded
 { [ -n "$shown" ] && grep -qF -- "$shown" unfolded; } || failed 'the manual page shows another message'
 passed

@@ -23,6 +23,10 @@ pub fn advice(refusal: Refusal) -> &'static str {
         Refusal::NotNested => "check that both headers are of this image",
         Refusal::ImageSize => "let nothing else use the image meanwhile, and check that it is still whole",
         Refusal::Outside { .. } => "ask for sectors that the volume has",
+        Refusal::Unaligned => {
+            "ask for whole sectors of the disk; to write a part of one, read all of it first, put the part in \
+             its place, and write it back"
+        }
         Refusal::Locked => "open the volume again",
         Refusal::Protected { .. } => {
             "write outside the protected sectors; what is meant for the hidden volume is written to it by name"

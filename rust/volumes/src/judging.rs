@@ -2,6 +2,7 @@
 
 use ondristela::{Refusal, View, MAX_COUNT, SECTOR_SIZE};
 
+use crate::alignment;
 use crate::extent::Extent;
 use crate::image::Image;
 use crate::problem::Problem;
@@ -9,27 +10,21 @@ use crate::sizes::size;
 use crate::thousands::thousands;
 use crate::volume::Volume;
 
-/// Whether a volume has all sectors of an extent, however many calls it takes.
-pub fn judge_read(view: &View, image: &Image, extent: Extent) -> Result<(), Problem> {
-    let past = past_end(view, extent);
-    view.read_extent(image.size()?, past.first, past.count, past.size())
-        .map_err(|refusal| refused(refusal, view, image, extent))?;
-    Ok(())
-}
-
-/// Whether a write may end where this extent does. It is refused 16 exactly where the extent reaches past the
-/// volume's end, 17 where the lock is closed, and never 18.
-pub fn judge_end(view: &mut View, image: &Image, extent: Extent) -> Result<(), Problem> {
-    let past = past_end(view, extent);
-    let answer = view.write_extent(image.size()?, past.first, past.count, past.size());
-    answer.map_err(|refusal| refused(refusal, view, image, extent))?;
+/// Whether a volume has all sectors of an extent, and they are whole sectors of the disk, however many calls it takes.
+/// It is refused 20 and 16 as one call for all of it would be, be it a read or a write. Nothing is asked of the lock
+/// and the protected range.
+pub fn judge_extent(view: &View, image: &Image, extent: Extent) -> Result<(), Problem> {
+    for part in [rest(extent), past_end(view, extent)] {
+        view.read_extent(image.size()?, part.first, part.count, part.size())
+            .map_err(|refusal| refused(refusal, view, image, extent))?;
+    }
     Ok(())
 }
 
 /// Whether every call of a write is accepted, asked before the first byte is written, so that a write of several
 /// calls is never refused part-way.
 pub fn judge_write(view: &mut View, image: &Image, extent: Extent) -> Result<(), Problem> {
-    judge_end(view, image, extent)?;
+    judge_extent(view, image, extent)?;
     let host_size = image.size()?;
     for call in extent.calls() {
         let answer = view.write_extent(host_size, call.first, call.count, call.size());
@@ -38,11 +33,19 @@ pub fn judge_write(view: &mut View, image: &Image, extent: Extent) -> Result<(),
     Ok(())
 }
 
-// The part of an extent past the volume's end, as far as one call takes it: no sectors, where there is none. It is
-// refused 16 exactly where the whole extent would be, and with the same sector in the way.
+// An extent without as many full calls as its count has. These are of whole sectors of any disk, so it is refused 20
+// exactly where the whole extent would be; and 16 only where that would be, with the same sector in the way.
+fn rest(extent: Extent) -> Extent {
+    Extent { count: extent.count % MAX_COUNT, ..extent }
+}
+
+// The part of an extent past the volume's end, as far as one call takes it: no sectors, where there is none. Of an
+// extent that is not refused 20, it is refused 16 exactly where the whole would be, and with the same sector in the
+// way.
 fn past_end(view: &View, extent: Extent) -> Extent {
     let first = extent.first.max(view.layout.sector_count());
-    Extent { first, count: extent.end().saturating_sub(first).min(MAX_COUNT) }
+    let before = first - extent.first;
+    Extent { first, count: extent.count.saturating_sub(before).min(MAX_COUNT) }
 }
 
 /// A refusal of an extent, or of a call for a part of it.
@@ -55,6 +58,7 @@ pub fn refused(refusal: Refusal, view: &View, image: &Image, extent: Extent) -> 
         Refusal::Protected { sector } => {
             protected(view, extent, sector).unwrap_or_else(|other| vec![other.to_string()])
         }
+        Refusal::Unaligned => alignment::facts(&view.layout, extent),
         _ => Vec::new(),
     };
     facts.into_iter().fold(Problem::refused(refusal), Problem::fact)
@@ -135,48 +139,69 @@ fn protected_sectors(view: &View) -> Result<String, Refusal> {
 mod tests {
     use ondristela::{Kind, Layout, Magic, Refusal, View, MAX_COUNT};
 
-    use super::past_end;
+    use super::{past_end, rest};
     use crate::extent::Extent;
 
-    const HOST_SIZE: u64 = 262_144 + 6 * 512;
-
-    fn view() -> View {
+    // A volume of six sectors of the disk, all of them protected.
+    fn view(sector_size: u64) -> View {
         let layout = Layout {
-            host_size: HOST_SIZE,
+            host_size: 262_144 + 6 * sector_size,
             kind: Kind::Standard,
             magic: Magic::Vera,
             version: 5,
             min_program_version: 267,
             data_start: 131_072,
-            data_size: 6 * 512,
+            data_size: 6 * sector_size,
             candidate: 0,
+            sector_size,
         };
-        View { layout, protected: Some(131_072..HOST_SIZE - 131_072), locked: false }
+        View { layout, protected: Some(131_072..131_072 + 6 * sector_size), locked: false }
     }
 
-    fn asked(extent: Extent) -> Result<(), Refusal> {
-        view().write_extent(HOST_SIZE, extent.first, extent.count, extent.size()).map(|_| ())
+    fn judged(view: &View, extent: Extent) -> Option<Refusal> {
+        let host_size = view.layout.host_size;
+        let read = |part: Extent| view.read_extent(host_size, part.first, part.count, part.size()).err();
+        read(rest(extent)).or_else(|| read(past_end(view, extent)))
     }
 
-    /// The part past the end is refused as the whole is, but for what lies in the volume.
+    // How a write of one call is refused, if not for what is protected.
+    fn written(mut view: View, extent: Extent) -> Option<Refusal> {
+        let host_size = view.layout.host_size;
+        let answer = view.write_extent(host_size, extent.first, extent.count, extent.size());
+        answer.err().filter(|refusal| refusal.number() != 18)
+    }
+
+    /// The two parts are refused as the whole is, but for what lies in the volume.
     #[test]
-    fn the_part_past_the_end_speaks_for_the_whole() {
-        let firsts = || (0..9).chain([1 << 55, u64::MAX - 1, u64::MAX]);
-        for (first, count) in firsts().flat_map(|first| (0..=MAX_COUNT).map(move |count| (first, count))) {
-            let extent = Extent { first, count };
-            let outside = asked(extent).err().filter(|refusal| refusal.number() == 16);
-            assert_eq!(asked(past_end(&view(), extent)).err(), outside, "{extent}");
+    fn the_parts_speak_for_the_whole() {
+        let firsts = || (0..50).chain([1 << 55, u64::MAX - 7, u64::MAX - 1, u64::MAX]);
+        let extents = || firsts().flat_map(|first| (0..=MAX_COUNT).map(move |count| Extent { first, count }));
+        let views = [512, 1_024, 2_048, 4_096].map(view);
+        for (view, extent) in views.iter().flat_map(|view| extents().map(move |extent| (view, extent))) {
+            assert_eq!(judged(view, extent), written(view.clone(), extent), "{extent}");
         }
     }
 
     /// Extents of more sectors than a call takes, up to the last that can be told.
     #[test]
     fn long_extents_reach_the_end_at_the_same_sector() {
-        for (first, count) in [(0, 129), (5, u64::MAX), (1, 1 << 34), (6, u64::MAX - 6)] {
-            let refusal = asked(past_end(&view(), Extent { first, count }));
-            assert_eq!(refusal, Err(Refusal::Outside { sector: Some(6) }), "{count} from {first} on");
+        let outside = |sector| Some(Refusal::Outside { sector: Some(sector) });
+        let extents = [
+            (512, 0, 129, outside(6)),
+            (512, 5, u64::MAX, outside(6)),
+            (512, 1, 1 << 34, outside(6)),
+            (512, 6, u64::MAX - 6, outside(6)),
+            (512, 7, 1 << 34, outside(7)),
+            (4_096, 40, 136, outside(48)),
+            (4_096, 8, u64::MAX - 7, outside(48)),
+            (4_096, u64::MAX - 7, u64::MAX - 7, outside(u64::MAX - 7)),
+            (4_096, 0, 129, Some(Refusal::Unaligned)),
+            (4_096, 4, 1 << 34, Some(Refusal::Unaligned)),
+            (4_096, 0, u64::MAX, Some(Refusal::Unaligned)),
+        ];
+        for (sector_size, first, count, refusal) in extents {
+            let extent = Extent { first, count };
+            assert_eq!(judged(&view(sector_size), extent), refusal, "{extent}");
         }
-        let refusal = asked(past_end(&view(), Extent { first: 7, count: 1 << 34 }));
-        assert_eq!(refusal, Err(Refusal::Outside { sector: Some(7) }));
     }
 }

@@ -7,6 +7,7 @@
 #![deny(unsafe_code)]
 
 mod advice;
+mod alignment;
 mod arguments;
 mod demo;
 mod extent;

@@ -7,7 +7,7 @@ use std::path::PathBuf;
 use crate::problem::Problem;
 
 /// Every option, and what its value is, if it takes one.
-const NAMES: [(&str, Option<&str>); 15] = [
+const NAMES: [(&str, Option<&str>); 16] = [
     ("-h", None),
     ("--help", None),
     ("--version", None),
@@ -21,6 +21,7 @@ const NAMES: [(&str, Option<&str>); 15] = [
     ("--min-program-version", Some("a number")),
     ("--data-start", Some("a number of bytes")),
     ("--data-size", Some("a number of bytes")),
+    ("--sector-size", Some("a number of bytes")),
     ("--salt", Some("a file of 64 bytes")),
     ("--keys", Some("a file of 256 bytes")),
 ];

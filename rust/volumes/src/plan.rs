@@ -4,7 +4,7 @@ use std::ffi::OsStr;
 use std::path::PathBuf;
 use std::str::FromStr;
 
-use ondristela::{Kind, Location, Magic, NewHeader};
+use ondristela::{Kind, Location, Magic, NewHeader, SECTOR_SIZE};
 
 use crate::formats::{magic_named, min_program_version, HEADER_VERSION};
 use crate::numbers::number;
@@ -27,13 +27,14 @@ pub struct Plan {
     pub min_program_version: u16,
     pub data_start: Option<u64>,
     pub data_size: Option<u64>,
+    pub sector_size: u64,
     pub salt_file: Option<PathBuf>,
     pub keys_file: Option<PathBuf>,
     pub target: PathBuf,
 }
 
 /// The options that tell of a header to be made.
-pub const OPTIONS: [&str; 9] = [
+pub const OPTIONS: [&str; 10] = [
     "--host-size",
     "--backup",
     "--magic",
@@ -41,6 +42,7 @@ pub const OPTIONS: [&str; 9] = [
     "--min-program-version",
     "--data-start",
     "--data-size",
+    "--sector-size",
     "--salt",
     "--keys",
 ];
@@ -52,6 +54,7 @@ impl Plan {
         let magic = magic(options)?;
         let version = told(options, "--header-version")?;
         let least = told(options, "--min-program-version")?;
+        let sector_size = told(options, "--sector-size")?;
         Ok(Plan {
             host,
             location,
@@ -60,6 +63,7 @@ impl Plan {
             min_program_version: least.unwrap_or_else(|| min_program_version(magic)),
             data_start: told(options, "--data-start")?,
             data_size: told(options, "--data-size")?,
+            sector_size: sector_size.unwrap_or(SECTOR_SIZE as u64),
             salt_file: options.path("--salt"),
             keys_file: options.path("--keys"),
             target: target.into(),
@@ -78,6 +82,7 @@ impl Plan {
             host_size,
             data_start,
             data_size: self.data_size.unwrap_or(room.end.saturating_sub(data_start)),
+            sector_size: self.sector_size,
             salt,
             keys,
         }
@@ -135,6 +140,7 @@ mod tests {
             assert_eq!((header.magic, header.location), (magic, Location::Standard));
             assert_eq!((header.version, header.min_program_version), (5, min_program_version(magic)));
             assert_eq!((header.data_start, header.data_size), (131_072, 786_432));
+            assert_eq!(header.sector_size, 512);
             assert_eq!((plan.salt_file, plan.keys_file, plan.target), (None, None, "file".into()));
         }
     }
@@ -143,12 +149,13 @@ mod tests {
     fn what_is_told_is_taken() {
         let line =
             "prepare --host-size 12 hidden file --magic=TRUE --data-start 3 --data-size 4 --salt s --keys k \
-                    --header-version 4 --min-program-version 6";
+                    --header-version 4 --min-program-version 6 --sector-size 4294967808";
         let plan = planned(line).unwrap();
         let header = plan.header(1_048_576, &[], &[]);
         assert!(matches!(plan.host, Host::Size(12)));
         assert_eq!((header.version, header.min_program_version), (4, 6));
         assert_eq!((header.data_start, header.data_size), (3, 4));
+        assert_eq!(header.sector_size, (1 << 32) + 512);
         assert_eq!((plan.salt_file, plan.keys_file), (Some("s".into()), Some("k".into())));
     }
 
@@ -183,6 +190,8 @@ mod tests {
             ("outer file --magic TRUE --host-size 1,048,576", "--host-size is a whole number below 2^64"),
             ("disk outer file --magic TRUE --data-start 128K", "--data-start is a whole number"),
             ("disk outer file --magic TRUE --data-size -1", "--data-size is a whole number"),
+            ("disk outer file --magic TRUE --sector-size 4K", "--sector-size is a whole number below 2^64"),
+            ("disk outer file --magic TRUE --sector-size", "--sector-size needs a number of bytes"),
             (
                 "disk outer file --magic TRUE --header-version 65536",
                 "--header-version is a whole number below 2^16",

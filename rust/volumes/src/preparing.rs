@@ -2,7 +2,7 @@
 
 use std::path::Path;
 
-use ondristela::{open, NewHeader, Refusal, HEADER_SIZE};
+use ondristela::{open, NewHeader, Refusal, HEADER_SIZE, SECTOR_SIZE};
 
 use crate::faults::refused;
 use crate::formats::magic_name;
@@ -68,12 +68,15 @@ fn facts(header: &NewHeader, bytes: &[u8]) -> Result<String, Refusal> {
     let [version, least] = [layout.version, layout.min_program_version].map(thousands);
     let header_bytes = range(place, HEADER_SIZE as u64);
     let data_bytes = range(layout.data_start, layout.data_size);
-    Ok([
+    let mut facts = vec![
         format!("header: {format}, version {version}, min program version {least}"),
         format!("place: {header_bytes}"),
         format!("data area: {data_bytes}, {}", size(layout.data_size)),
-    ]
-    .join("\n"))
+    ];
+    if layout.sector_size != SECTOR_SIZE as u64 {
+        facts.push(format!("disk's sectors: {} bytes each", thousands(layout.sector_size)));
+    }
+    Ok(facts.join("\n"))
 }
 
 fn range(start: u64, size: u64) -> String {

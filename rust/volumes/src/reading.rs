@@ -7,7 +7,7 @@ use ondristela::View;
 use crate::arguments::Files;
 use crate::extent::Extent;
 use crate::image::Image;
-use crate::judging::{judge_read, refused, sectors};
+use crate::judging::{judge_extent, refused, sectors};
 use crate::names::destination;
 use crate::new_file::SHARED;
 use crate::notes::reported;
@@ -22,7 +22,7 @@ use crate::volumes::Volumes;
 pub fn read(files: &Files, volume: Volume, extent: Extent, path: &Path) -> Result<String, Problem> {
     let image = Image::to_read(&files.image)?;
     let view = Volumes::open(files, &image)?.into_view(volume)?;
-    judge_read(&view, &image, extent)?;
+    judge_extent(&view, &image, extent)?;
     copy(&view, &image, extent, Target::open(path, SHARED)?)?;
     Ok(reported(format!("read {} {extent}, {}\n", volume.name(), destination(path)), path))
 }

@@ -1,6 +1,6 @@
 //! The sample's deciphered headers.
 
-use ondristela::{Location, Magic, NewHeader, Refusal, HEADER_SIZE, KEYS_SIZE, SALT_SIZE};
+use ondristela::{Location, Magic, NewHeader, Refusal, HEADER_SIZE, KEYS_SIZE, SALT_SIZE, SECTOR_SIZE};
 
 use crate::formats::{min_program_version, HEADER_VERSION};
 use crate::noise::noise;
@@ -32,6 +32,7 @@ pub fn header(fields: Fields, host_size: u64) -> Result<[u8; HEADER_SIZE], Refus
         host_size,
         data_start: fields.data_start,
         data_size: fields.data_size,
+        sector_size: SECTOR_SIZE as u64,
         // The salt is never enciphered, so the image has the same bytes there.
         salt: &noise(fields.location.code(), SALT_SIZE),
         keys: &[fields.key_byte; KEYS_SIZE],

@@ -18,8 +18,20 @@ pub fn show(image: &Path, host_size: u64, volumes: &Volumes) -> Result<String, P
     let name = shown(Path::new(image.file_name().unwrap_or(image.as_os_str())));
     let layout = |opened: &Option<Opened>| opened.as_ref().map(|opened| opened.view.layout);
     let regions = regions(host_size, layout(&volumes.outer), layout(&volumes.hidden))?;
+    let told = disk_sectors(volumes) + &table(volumes)?;
     let drawn = picture(&regions) + &list(&regions);
-    Ok(format!("{name}, {}\n{}\n{drawn}", size(host_size), table(volumes)?))
+    Ok(format!("{name}, {}\n{told}\n{drawn}", size(host_size)))
+}
+
+// A line on the disk's sectors, where they are larger than those that are counted here. Both volumes tell the same of
+// them, or they would not nest.
+fn disk_sectors(volumes: &Volumes) -> String {
+    let opened = volumes.outer.as_ref().or(volumes.hidden.as_ref());
+    let larger = opened.map(|opened| opened.view.layout).filter(|layout| layout.alignment() > 1);
+    larger.map_or(String::new(), |layout| {
+        let (bytes, multiple) = (thousands(layout.sector_size), layout.alignment());
+        format!("disk's sectors: {bytes} bytes, {multiple} of those below; FIRST and COUNT are multiples of {multiple}\n")
+    })
 }
 
 // A column of labels and one for each volume.

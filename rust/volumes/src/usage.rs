@@ -31,7 +31,11 @@ protects a hidden volume. Headers whose salt is not on IMAGE are refused:
     --risk-wrong-disk    goes on all the same; what is written then may
                          destroy another disk's data
 
-VOLUME is outer or hidden; its sectors count from 0.
+VOLUME is outer or hidden; its sectors have 512 bytes and count from 0.
+Where the disk's own sectors have 1,024, 2,048 or 4,096 bytes, only whole
+ones are copied: FIRST, COUNT and the sectors of FILE are multiples of 2, 4
+or 8. show tells of which; what is refused is told with the whole sectors
+around it.
 FILE - is standard output or standard input. Standard input is copied to a
 nameless file in $TMPDIR (or /tmp) first, since all of a write is judged
 before its first byte is written.
@@ -46,6 +50,8 @@ outer volume with all the room that IMAGE has, where nothing else is said:
     --host-size BYTES    a size in the place of IMAGE
     --data-start BYTES   the first byte of the data area in IMAGE, and its
     --data-size BYTES    size; a hidden volume needs both
+    --sector-size BYTES  of the disk: 512, 1024, 2048 or 4096, else 512; the
+                         sizes and the start are multiples of it
     --backup             the volume's backup; it has a salt of its own, and
                          the keys of the main header, so it needs --keys
     --salt FILE          64 bytes, instead of new ones

@@ -62,5 +62,12 @@ fn apart(refusal: Refusal, outer: &Layout, hidden: &Layout) -> Problem {
         let (first, last) = (layout.data_start, layout.data_start + layout.data_size - 1);
         format!("{name} data area: bytes {} to {}", thousands(first), thousands(last))
     };
-    Problem::refused(refusal).fact(area("outer", outer)).fact(area("hidden", hidden))
+    let problem = Problem::refused(refusal).fact(area("outer", outer)).fact(area("hidden", hidden));
+    if outer.sector_size == hidden.sector_size {
+        return problem;
+    }
+    let [outer, hidden] = [outer, hidden].map(|layout| thousands(layout.sector_size));
+    problem
+        .fact(format!("disk's sectors: {outer} bytes by the outer header, {hidden} by the hidden one"))
+        .next("check that both headers are of this image; on one disk both tell the same sector size")
 }

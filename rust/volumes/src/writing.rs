@@ -7,7 +7,7 @@ use ondristela::{Kind, View};
 use crate::arguments::Files;
 use crate::extent::Extent;
 use crate::image::Image;
-use crate::judging::{judge_end, judge_write, refused, sectors};
+use crate::judging::{judge_extent, judge_write, refused, sectors};
 use crate::names::is_stream;
 use crate::notes::note;
 use crate::problem::Problem;
@@ -22,9 +22,10 @@ use crate::volumes::Volumes;
 pub fn write(files: &Files, volume: Volume, first: u64, path: &Path) -> Result<String, Problem> {
     let image = Image::to_write(&files.image)?;
     let mut view = Volumes::open(files, &image)?.into_view(volume)?;
+    let layout = view.layout;
     let source = match is_stream(path) {
-        true => Source::spool(first, |extent| judge_input(&mut view, &image, extent))?,
-        false => Source::open(path, first)?,
+        true => Source::spool(first, &layout, |extent| judge_input(&view, &image, extent))?,
+        false => Source::open(path, first, &layout)?,
     };
     judge_write(&mut view, &image, source.extent)?;
     if view.layout.kind == Kind::Standard && view.protected.is_none() {
@@ -37,8 +38,8 @@ pub fn write(files: &Files, volume: Volume, first: u64, path: &Path) -> Result<S
 }
 
 // Of standard input that goes on, no more is known than what has come so far.
-fn judge_input(view: &mut View, image: &Image, so_far: Extent) -> Result<(), Problem> {
-    judge_end(view, image, so_far)
+fn judge_input(view: &View, image: &Image, so_far: Extent) -> Result<(), Problem> {
+    judge_extent(view, image, so_far)
         .map_err(|problem| problem.fact("standard input was read no further".to_string()))
 }
 
@@ -64,7 +65,7 @@ fn copy(view: &mut View, image: &Image, source: &Source, progress: &mut Progress
         progress.add(call);
     }
     // Once more at the end: the image may have been cut short during the last call.
-    judge_end(view, image, extent).map_err(|problem| part_way(problem, view, extent, extent))
+    judge_extent(view, image, extent).map_err(|problem| part_way(problem, view, extent, extent))
 }
 
 fn copy_call(view: &mut View, image: &Image, source: &Source, call: Extent) -> Result<(), Problem> {
