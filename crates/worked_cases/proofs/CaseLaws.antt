@@ -1,6 +1,7 @@
 -- The worked cases hold: antt computes both sides.
 -- Assumes nothing.
-use mathlib.Core.{Path.{_≡_, refl}, List.map}
+use Prim.Native.Nat.{ℕ}
+use mathlib.Core.{Path.{_≡_, refl, sym, _∙_}, List.{List, _++_, map, map-append}}
 use Rattle.numbers.specs.Numbers.{bigEndian, bigEndianFrom, bigEndianBytes, littleEndianBytes}
 use Rattle.fields.specs.Bytes.{sameBytes, allZero}
 use Rattle.crc32.specs.Crc32.{crc32, crcFrom, bitSteps, bitStep}
@@ -20,19 +21,51 @@ use Rattle.map_output.specs.Decimal.{digits, decimal}
 use Rattle.map_output.specs.MapOutput.{textLine, numberLine, eitherLine, magicLine, kindLine, headerLines, areaLines, sectorLines, lastSector, layoutLines}
 use Rattle.guarantees.specs.MapProgram.{letters}
 use Rattle.worked_cases.specs.WorkedCases.{outerTold, hiddenTold, fieldBytes, headerWith, toldOf, opens, opensM, volume, volumeM, volumeN, largeM}
-use Rattle.worked_cases.specs.WorkedCases.{mappedTold, tweakTold, sectorTold, onView, writingFrom, writing, reading, leaving, cases, AsWorked}
+use Rattle.worked_cases.specs.WorkedCases.{mappedTold, tweakTold, sectorTold, onView, writingFrom, writing, reading, leaving}
+use Rattle.worked_cases.specs.WorkedCases.{Rows, openingCases, sectorSizeCases, mapCases, accessCases, cases, AsWorked}
 
-table : map (λ c. c .0) cases ≡ map (λ c. c .1) cases
-unfolding cases opens opensM toldOf outerTold hiddenTold headerWith fieldBytes bigEndianBytes volume volumeM volumeN largeM mappedTold tweakTold
+-- each row is as the rules say
+abbrev Right : Rows → Type 0
+Right rows = map (λ row. row .0) rows ≡ map (λ row. row .1) rows
+
+-- two parts of a table make one
+join : (a b : Rows) → Right a → Right b → Right (a ++ b)
+join a b f g = map-append (λ row. row .0) a b ∙ (λ i. f i ++ g i) ∙ sym (map-append (λ row. row .1) a b)
+
+-- opening, with all that it goes by: where this is unfolded, opening is computed
+computed-opens : ℕ → ℕ → List ℕ → List ℕ
+unfolding opens opensM toldOf outerTold hiddenTold headerWith fieldBytes bigEndianBytes
     opened lengthsRule codesRule codeRule hostSizeRule searched further judgements candidateAt locationOf locations
     judge isHeader magicNumber magicOf fieldsOf checksumsMatch sameBytes allZero acceptedLayout
     versionRule reservedRule flagsRule sectorSizeRule hiddenSizeRule areaRule dataAreaRule sectorsRule multiple placeRule
     crc32 crcFrom bitStep bitSteps bigEndian bigEndianFrom
-    hostSector userSector tweakNumber tweakOf blockOf sectors firstSector sound littleEndianBytes
-    onView writingFrom writing reading leaving plainView protectedView plainOf protectedOf nests areaEnd protectionRule soundProtection
-    protectedExtent paired madeBy blockedBy endAnswer alignmentRule checked lockAnswer readAnswer writeAnswer lockedAfter after
+computed-opens = opens
+
+opening-rows : Right openingCases
+unfolding openingCases computed-opens
+opening-rows = refl
+
+sector-size-rows : Right sectorSizeCases
+unfolding sectorSizeCases computed-opens
+sector-size-rows = refl
+
+map-rows : Right mapCases
+unfolding mapCases volume volumeM volumeN mappedTold tweakTold hostSector userSector tweakNumber tweakOf blockOf sectors firstSector
+    sound hostSizeRule sectorSizeRule dataAreaRule sectorsRule multiple placeRule littleEndianBytes
+map-rows = refl
+
+access-rows : Right accessCases
+unfolding accessCases volume volumeM volumeN largeM onView writingFrom writing reading leaving plainView protectedView plainOf protectedOf
+    sound hostSizeRule sectorSizeRule dataAreaRule sectorsRule multiple placeRule nests areaEnd protectionRule soundProtection protectedExtent paired
+    madeBy sectors blockedBy endAnswer alignmentRule checked lockAnswer readAnswer writeAnswer lockedAfter after
     answerRefusal answerSector sectorTold has larger overlap beyond
-table = refl
+access-rows = refl
+
+table : Right cases
+unfolding cases
+table =
+    join openingCases (sectorSizeCases ++ (mapCases ++ accessCases)) opening-rows
+    (join sectorSizeCases (mapCases ++ accessCases) sector-size-rows (join mapCases accessCases map-rows access-rows))
 
 output : layoutLines volumeM
     ≡ letters "mark TRUE\nversion 5\nneeds 1792\nkind standard\nhost 1048576\nstart 131072\nsize 786432\nsectors 1536\nfirst 256\nlast 1791\n"

@@ -120,39 +120,58 @@ reading first count view = viewRead view 1048576 first count (count * 512)
 unfoldable pub leaving : ℕ → ℕ → View → View
 leaving first count view = after view (writing first count view)
 
--- the table: what the definitions answer, and what the rules say
-unfoldable pub cases : List (List ℕ × List ℕ)
-cases =
+-- rows of the table: what the definitions answer, and what the rules say
+abbrev pub Rows : Type 0
+Rows = List (List ℕ × List ℕ)
+
+-- opening
+unfoldable pub openingCases : Rows
+openingCases =
     let oneSector = headerWith (outerTold 512 512) in
-    -- opening: in the least host, and in one that is a sector smaller
+    -- in the least host, and in one that is a sector smaller
     (opens 0 262656 oneSector, 0 ∷ 1 ∷ [])
     ∷ (opens 0 262144 oneSector, 3 ∷ [])
-    -- .. with a data area that is a sector too large, and with one near 2^64
+    -- with a data area that is a sector too large, and with one near 2^64
     ∷ (opens 0 1048576 (headerWith (outerTold 786944 512)), 10 ∷ [])
     ∷ (opens 0 1048576 (headerWith (outerTold (2 ^ 64 - 512) 512)), 10 ∷ [])
-    -- .. M's header with each size that a disk's sectors may have, and with three that they may not
-    ∷ (opensM 512, 0 ∷ 1536 ∷ [])
+    ∷ []
+
+-- opening, by the size of the disk's sectors
+unfoldable pub sectorSizeCases : Rows
+sectorSizeCases =
+    -- M's header with each size that they may have, and with three that they may not
+    (opensM 512, 0 ∷ 1536 ∷ [])
     ∷ (opensM 1024, 0 ∷ 1536 ∷ [])
     ∷ (opensM 2048, 0 ∷ 1536 ∷ [])
     ∷ (opensM 4096, 0 ∷ 1536 ∷ [])
     ∷ (opensM 513, 8 ∷ [])
     ∷ (opensM 8192, 8 ∷ [])
     ∷ (opensM 0, 8 ∷ [])
-    -- .. sectors of 4,096 bytes: S, then V, 512 off a multiple; N's header, and with O 512 off
+    -- sectors of 4,096 bytes: S, then V, 512 off a multiple; N's header, and with O 512 off
     ∷ (opens 0 1049088 (headerWith (outerTold 786432 4096)), 10 ∷ [])
     ∷ (opens 0 1048576 (headerWith (outerTold 785920 4096)), 10 ∷ [])
     ∷ (opens 1 1048576 (headerWith (hiddenTold 655360 262144 4096)), 0 ∷ 512 ∷ [])
     ∷ (opens 1 1048576 (headerWith (hiddenTold 654848 262144 4096)), 10 ∷ [])
-    -- the map: M's first sector, its last, the one past it, and N's first
-    ∷ (tweakTold (tweakOf volumeM 0), 0 ∷ 256 ∷ 0x00 ∷ 0x01 ∷ replicate 14 0)
+    ∷ []
+
+-- the map
+unfoldable pub mapCases : Rows
+mapCases =
+    -- M's first sector, its last, the one past it, and N's first
+    (tweakTold (tweakOf volumeM 0), 0 ∷ 256 ∷ 0x00 ∷ 0x01 ∷ replicate 14 0)
     ∷ (tweakTold (tweakOf volumeM 1535), 0 ∷ 1791 ∷ 0xFF ∷ 0x06 ∷ replicate 14 0)
     ∷ (mappedTold (hostSector volumeM 1536), 16 ∷ [])
     ∷ (tweakTold (tweakOf volumeN 0), 0 ∷ 1280 ∷ 0x00 ∷ 0x05 ∷ replicate 14 0)
-    -- .. and back: the host sector before M's data area, and the first in it
+    -- back: the host sector before M's data area, and the first in it
     ∷ (mappedTold (userSector volumeM 255), 16 ∷ [])
     ∷ (mappedTold (userSector volumeM 256), 0 ∷ 0 ∷ [])
+    ∷ []
+
+-- reads and writes
+unfoldable pub accessCases : Rows
+accessCases =
     -- M with N protected: a write that ends where N begins, and one that goes on into N
-    ∷ (onView (protectedView volumeM volumeN) (writing 1023 1), 0 ∷ [])
+    (onView (protectedView volumeM volumeN) (writing 1023 1), 0 ∷ [])
     ∷ (onView (protectedView volumeM volumeN) (writing 1023 2), 18 ∷ 1024 ∷ [])
     -- .. and through the view which that one leaves, a write and a read elsewhere
     ∷ (onView (protectedView volumeM volumeN) (λ view. writing 0 1 (leaving 1023 2 view)), 17 ∷ [])
@@ -174,6 +193,10 @@ cases =
     ∷ (onView (plainView largeM) (writing 1536 8), 16 ∷ 1536 ∷ [])
     ∷ (onView (plainView largeM) (writing 1 0), 20 ∷ [])
     ∷ []
+
+-- the table
+unfoldable pub cases : Rows
+cases = openingCases ++ (sectorSizeCases ++ (mapCases ++ accessCases))
 
 -- the claim: every case, and the map program's whole output for M, is as the rules say
 pub record AsWorked : Type 0 where
