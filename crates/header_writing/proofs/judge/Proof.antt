@@ -78,13 +78,21 @@ sectors-left : (c : tie.Else5)
     headerAnswer (args .code) (args .layout) (args .salt-size) (args .keys-size) (args .header-size) ≡ areaAnswer (args .layout)
 sectors-left c = rw (version-left (c .before .before), sym (c .before .keeps-version .ensures) ∙ not-false _ (c .if5 .left)) refl
 
+-- the test of the sectors tells the rule for Z
+sectors-told : (c : tie.After-is-sector-size)
+    → let host = c .before .before .before in
+    let codes = host .before .before in
+    let args = codes .before .before .before .before .before .args in
+    sectorSizeRule (args .layout .«sector_size») ≡ c .is-sector-size .result
+sectors-told c = sym (c .is-sector-size .ensures)
+
 area-left : (c : tie.Else6)
     → let version = c .before .before in
     let host = version .before .before in
     let codes = host .before .before in
     let args = codes .before .before .before .before .before .args in
     headerAnswer (args .code) (args .layout) (args .salt-size) (args .keys-size) (args .header-size) ≡ line (Refused 10) (dataAreaRule (args .layout)) Done
-area-left c = rw (sectors-left (c .before .before), sym (c .before .is-sector-size .ensures) ∙ not-false _ (c .if6 .left)) refl
+area-left c = rw (sectors-left (c .before .before), sectors-told (c .before) ∙ not-false _ (c .if6 .left)) refl
 
 returns-5 : tie.Need-returns-5
 returns-5 c = rw (version-left (c .before .before), sym (c .before .keeps-version .ensures) ∙ not-true _ (c .if5 .taken)) refl
@@ -93,7 +101,7 @@ is-sector-size-requires : tie.Need-is-sector-size-requires
 is-sector-size-requires c κs = search needs
 
 returns-6 : tie.Need-returns-6
-returns-6 c = rw (sectors-left (c .before .before), sym (c .before .is-sector-size .ensures) ∙ not-true _ (c .if6 .taken)) refl
+returns-6 c = rw (sectors-left (c .before .before), sectors-told (c .before) ∙ not-true _ (c .if6 .taken)) refl
 
 is-data-area-requires : tie.Need-is-data-area-requires
 is-data-area-requires c κs = search needs
