@@ -60,7 +60,8 @@ unaligned 'a read past the end' 1,530 '' "outer sector 1,528, count 8 (4,096 byt
 unaligned 'a read behind the end' 1,537 '' "$(past outer 1,536 1,535)" of_size 4096 read outer 1537 0 none
 unaligned 'a read from the last number on' $last '' "$(past hidden 512 511)" \
     of_size 4096 read hidden ${last//,/} 8 none
-unaligned 'a read of the last number' '' "$last ($last bytes)" "outer sector 0, count 1,536 (786,432 bytes), $ends" \
+unaligned 'a read of the last number' '' "$last (9,444,732,965,739,290,426,880 bytes)" \
+    "outer sector 0, count 1,536 (786,432 bytes), $ends" \
     timeout 10 "$program" read disk.img --outer outer.4096 outer 0 ${last//,/} none
 [ ! -e none ] || failed 'a refused read made a file'
 random 512 >one

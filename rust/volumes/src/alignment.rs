@@ -1,6 +1,6 @@
 //! Extents of whole sectors of the disk, which may be larger than the 512 bytes that sectors have here.
 
-use ondristela::Layout;
+use ondristela::{Layout, SECTOR_SIZE};
 
 use crate::extent::Extent;
 use crate::thousands::thousands;
@@ -21,7 +21,9 @@ pub fn facts(layout: &Layout, extent: Extent) -> Vec<String> {
 }
 
 fn faults(extent: Extent, multiple: u64) -> impl Iterator<Item = String> {
-    let [first, count, bytes] = [extent.first, extent.count, extent.size()].map(thousands);
+    let [first, count] = [extent.first, extent.count].map(thousands);
+    // A count that a caller makes up may have more bytes than 2^64.
+    let bytes = thousands(u128::from(extent.count) * SECTOR_SIZE as u128);
     let numbers = [
         (extent.first, format!("the first sector, {first}")),
         (extent.count, format!("the count, {count} ({bytes} bytes)")),
