@@ -28,3 +28,7 @@ pub bytes-getD : (bs : List ℕ) → Bytes bs → (i : ℕ) → getD bs i 0 < 25
 bytes-getD [] h i = zero-lt-suc 255
 bytes-getD (b ∷ bs) h zero = h .0
 bytes-getD (b ∷ bs) h (suc i) = bytes-getD bs (h .1) i
+
+pub bytes-every : (bs : List ℕ) → ((i : ℕ) → getD bs i 0 < 256) → Bytes bs
+bytes-every [] h = tt
+bytes-every (b ∷ bs) h = (h zero, bytes-every bs (λ i. h (suc i)))

@@ -1,9 +1,10 @@
--- A table of a function's values: how long it is, and what stands at an index.
+-- A table of a function's values: how long it is, what stands at an index, and the table of a list's own entries.
 -- Assumes nothing.
-use mathlib.Core.Path.{_≡_, refl, sym, ap, _∙_}
-use Prim.Native.Nat.{ℕ, zero, suc, _+_, _<_}
+use mathlib.Core.{Path.{_≡_, refl, sym, ap, _∙_}, List.{List, _∷_}}
+use Prim.Native.Nat.{ℕ, zero, suc, _+_, _≤_, _<_}
 use native.Mathlib.Nat.{add-zero, add-suc, suc-add, not-suc-le-zero, le-of-suc-le-suc}
-use lib.ListN.{length, getD}
+use native.Mathlib.Omega.{arith}
+use lib.{ListN.{length, getD, take, drop}, Seq.drop-cons}
 use Rattle.bits.specs.Bits.{entries}
 
 module _ {A : Type 0} (f : ℕ → A) where
@@ -18,3 +19,17 @@ module _ {A : Type 0} (f : ℕ → A) where
   entries-at d (suc n) k zero h = ap f (sym (add-zero k))
   entries-at d (suc n) k (suc i) h =
       entries-at d n (suc k) i (le-of-suc-le-suc h) ∙ ap f (suc-add k i ∙ sym (add-suc k i))
+
+  -- what holds of every value, and of what is read past the end
+  pub entries-every : (P : A → Type 0) (d : A) → P d → ((k : ℕ) → P (f k)) → (n k i : ℕ) → P (getD (entries f n k) i d)
+  unfolding entries
+  entries-every P d past every zero k i = past
+  entries-every P d past every (suc n) k zero = every k
+  entries-every P d past every (suc n) k (suc i) = entries-every P d past every n (suc k) i
+
+pub entries-getD : {A : Type 0} (list : List A) (d : A) (n k : ℕ) → k + n ≤ length list → entries (λ i. getD list i d) n k ≡ take n (drop k list)
+unfolding entries
+entries-getD list d zero k h = refl
+entries-getD {A = A} list d (suc n) k h =
+    ap {B = List A} (λ rest. getD list k d ∷ rest) (entries-getD list d n (suc k) (omega arith))
+    ∙ ap (take (suc n)) (sym (drop-cons list k d (omega arith)))

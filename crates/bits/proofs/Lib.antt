@@ -1,3 +1,4 @@
 pub mod EntriesLaws
 pub mod XorLaws
 pub mod BytesLaws
+pub mod TestLaws

@@ -1,4 +1,4 @@
--- Lists of bytes, and tables of a function's values: what `crc32` is stated with. Assumes nothing.
+-- Lists of bytes, and tables of a function's values: what `crc32` and AES are stated with. Assumes nothing.
 use Prim.Native.Nat.{ℕ, zero, suc, _<_}
 use mathlib.Core.List.{List, [], _∷_}
 
