@@ -1,0 +1,4 @@
+pub mod ExpansionLaws
+pub mod FieldLaws
+pub mod FoursLaws
+pub mod TableLaws

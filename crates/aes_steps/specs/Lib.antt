@@ -1,0 +1,5 @@
+pub mod Blocks
+pub mod Field
+pub mod KeyExpansion
+pub mod Rounds
+pub mod SBox
