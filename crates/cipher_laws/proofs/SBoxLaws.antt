@@ -1,0 +1,45 @@
+-- The S-box and its inverse make bytes, and undo each other. Assumes nothing.
+use Prim.Native.Nat.{ℕ, _+_, _%_, _<_}
+use native.Mathlib.Omega.{arith}
+use mathlib.Core.Path.{_≡_, ap, _∙_}
+use Rattle.bits.proofs.TestLaws.{same-below}
+use Rattle.aes_steps.specs.Field.{inverse}
+use Rattle.aes_steps.specs.SBox.{bit, byteOf, affine, inverseAffine, substituted, restored}
+use Rattle.cipher_laws.proofs.InverseLaws.{inverse-byte, inverse-inverse}
+
+-- eight bits are a byte
+byte-of-bits : (f : ℕ → ℕ) → byteOf (λ i. f i % 2) < 256
+unfolding byteOf
+byte-of-bits f = omega arith
+
+affine-byte : (b : ℕ) → affine b < 256
+unfolding affine
+affine-byte b = byte-of-bits (λ i. bit b i + bit b (i + 4) + bit b (i + 5) + bit b (i + 6) + bit b (i + 7) + bit 0x63 i)
+
+inverse-affine-byte : (b : ℕ) → inverseAffine b < 256
+unfolding inverseAffine
+inverse-affine-byte b = byte-of-bits (λ i. bit b (i + 2) + bit b (i + 5) + bit b (i + 7) + bit 0x05 i)
+
+pub substituted-byte : (b : ℕ) → substituted b < 256
+unfolding substituted
+substituted-byte b = affine-byte (inverse b)
+
+pub restored-byte : (b : ℕ) → restored b < 256
+unfolding restored
+restored-byte b = inverse-byte (inverseAffine b)
+
+affine-back : (b : ℕ) → b < 256 → inverseAffine (affine b) ≡ b
+unfolding affine inverseAffine byteOf bit
+affine-back = same-below (λ b. inverseAffine (affine b)) (λ b. b) 256 tt
+
+inverse-affine-back : (b : ℕ) → b < 256 → affine (inverseAffine b) ≡ b
+unfolding affine inverseAffine byteOf bit
+inverse-affine-back = same-below (λ b. affine (inverseAffine b)) (λ b. b) 256 tt
+
+pub restored-substituted : (b : ℕ) → b < 256 → restored (substituted b) ≡ b
+unfolding substituted restored
+restored-substituted b h = ap inverse (affine-back (inverse b) (inverse-byte b)) ∙ inverse-inverse b h
+
+pub substituted-restored : (b : ℕ) → b < 256 → substituted (restored b) ≡ b
+unfolding substituted restored
+substituted-restored b h = ap affine (inverse-inverse (inverseAffine b) (inverse-affine-byte b)) ∙ inverse-affine-back b h

@@ -1,0 +1,1 @@
+// No code: that deciphering undoes enciphering, and the other way round. Assumes nothing.
