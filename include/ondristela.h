@@ -2,19 +2,24 @@
  *
  * A volume's layout comes from its deciphered header, checked against the size of the host, the disk or file
  * that holds it. Sectors are read from and written to an image of the whole host, as they are there,
- * enciphered; a protected view refuses every write that would touch a hidden volume. Every function of the
- * library is proved to end and to meet its contract for all arguments, made-up layouts and views included.
+ * enciphered, or as plaintext, with AES-256 in XTS on the way; a protected view refuses every write that would
+ * touch a hidden volume. Every function of the library is proved to end and to meet its contract for all
+ * arguments, made-up layouts and views included.
  *
  * Sectors. A sector is always 512 bytes here, and first sectors, counts, buffers and tweaks go by it on every
  * disk. The disk's own sectors may be larger, as a layout's `sector_size` tells; then the extent of a read or write,
  * its first sector and its count, must be whole ones of the disk's.
  *
- * Answers. Every function but ondristela_crc32 returns ONDRISTELA_ACCEPTED, which is 0, or one refusal,
- * ONDRISTELA_REFUSED_..: of those that apply, the first in the order that the function's comment gives. A
- * refusal leaves all memory as it was, with two exceptions. ONDRISTELA_REFUSED_PROTECTED sets the view's
- * `locked`. Where a function takes `sector`, ONDRISTELA_REFUSED_OUTSIDE and ONDRISTELA_REFUSED_PROTECTED set
- * *sector to the first user sector that was in the way. ondristela_refusal_text, which this header defines,
- * gives the sentence for an answer.
+ * Keys. A key is 64 bytes: a first half for the data, a second half for the tweak. Of a volume that is enciphered
+ * with AES alone it is the first 64 of the header's key bytes, which ondristela_keys finds. Other ciphers, and AES
+ * together with others, are not done here. The comment at ondristela_encipher tells who may learn of a key by timing.
+ *
+ * Answers. ondristela_encipher and ondristela_decipher return nothing, and ondristela_crc32 a checksum. Every
+ * other function returns ONDRISTELA_ACCEPTED, which is 0, or one refusal, ONDRISTELA_REFUSED_..: of those that
+ * apply, the first in the order that the function's comment gives. A refusal leaves all memory as it was, with
+ * two exceptions. ONDRISTELA_REFUSED_PROTECTED sets the view's `locked`. Where a function takes `sector`,
+ * ONDRISTELA_REFUSED_OUTSIDE and ONDRISTELA_REFUSED_PROTECTED set *sector to the first user sector that was in
+ * the way. ondristela_refusal_text, which this header defines, gives the sentence for an answer.
  *
  * What the caller owes, and the proof cannot check:
  * - No pointer is null. Each is aligned for its type, and valid for it or for the length that follows. With a
@@ -176,6 +181,9 @@ extern "C" {
 #define ONDRISTELA_SALT_SIZE 64
 #define ONDRISTELA_KEYS_SIZE 256
 
+/* Bytes of the key that sectors are enciphered with: 32 for the data, then 32 for the tweak. */
+#define ONDRISTELA_KEY_SIZE 64
+
 /* The most candidates in one opening, and the most sectors in one read or write. */
 #define ONDRISTELA_MAX_CANDIDATES 64
 #define ONDRISTELA_MAX_COUNT 128
@@ -319,6 +327,35 @@ uint64_t ondristela_read_extent(const struct ondristela_view *view, uint64_t ima
  * that 18 sets its `locked` to 1. *sector is set and left as by ondristela_write. */
 uint64_t ondristela_write_extent(struct ondristela_view *view, uint64_t image_size, uint64_t first,
                                  uint64_t count, uint64_t buffer_size, uint64_t *offset, uint64_t *sector);
+
+/* Enciphers a unit in place: 512 bytes, with AES-256 (FIPS 197) in XTS (IEEE 1619). The first 32 bytes of the key
+ * are the data's, the next 32 the tweak's; keys with two equal halves are taken too. The unit is a sector, and its
+ * tweak number the host sector, as ondristela_host_sector stores it; any number is taken. Nothing is refused.
+ *
+ * Timing. This call and the three below look bytes up in tables, at places that depend on the key and the data.
+ * They are not constant-time: whoever runs programs on the same machine at the time, or shares its processor's
+ * caches, may learn something of the keys by timing. Run them on a machine that nobody else uses. Nothing is
+ * learnt in this way from the disk alone. */
+void ondristela_encipher(const uint8_t key[64], uint64_t tweak_number, uint8_t unit[512]);
+
+/* Deciphers a unit in place. With one key and one tweak number this and ondristela_encipher undo each other. */
+void ondristela_decipher(const uint8_t key[64], uint64_t tweak_number, uint8_t unit[512]);
+
+/* A read of plaintext: as ondristela_read, and each sector in the buffer is deciphered, with its host sector as the
+ * tweak number. The image is left as it is. No key is refused: what a wrong one gives looks random.
+ * Refusals: those of ondristela_read, in its order. They leave the buffer as it was. *sector is set and left as by
+ * ondristela_read. */
+uint64_t ondristela_read_plaintext(const struct ondristela_view *view, const uint8_t key[64],
+                                   const uint8_t *image, size_t image_size, uint64_t first, uint64_t count,
+                                   uint8_t *buffer, size_t buffer_size, uint64_t *sector);
+
+/* A write of plaintext: as ondristela_write, and each sector is stored enciphered, with its host sector as the tweak
+ * number. The buffer is left as it is.
+ * Refusals: those of ondristela_write, in its order. They leave the image as it was, and the view too, except that
+ * 18 sets its `locked` to 1. *sector is set and left as by ondristela_write. */
+uint64_t ondristela_write_plaintext(struct ondristela_view *view, const uint8_t key[64], uint8_t *image,
+                                    size_t image_size, uint64_t first, uint64_t count, const uint8_t *buffer,
+                                    size_t buffer_size, uint64_t *sector);
 
 /* CRC-32 of ITU-T V.42, the checksum in headers: 0xCBF43926 for the nine bytes "123456789". */
 uint32_t ondristela_crc32(const uint8_t *bytes, size_t bytes_size);

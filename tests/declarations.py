@@ -16,7 +16,7 @@ from declarations import (HEADER, LAYOUT, NUMBERS, OPENING, RATTLE, RUST, proble
 # The parts of each file that declare something.
 DECLARED = {
     RATTLE: r'#\[no_mangle\]\npub extern "C" fn \w+\([^)]*\)[^\n]*',
-    HEADER: r'\nuint\d+_t ondristela_\w+\([^)]*\);|\nstruct \w+ \{[^}]*\n\};',
+    HEADER: r'\n(?:uint\d+_t|void) ondristela_\w+\([^)]*\);|\nstruct \w+ \{[^}]*\n\};',
     RUST: r'\n +pub fn [^\n]*;|\npub fn \w+\([^)]*\)[^\n]*|\npub type [^\n]*|library::\w+\([^;}]*\)',
     NUMBERS: r'\n(?:pub )?const [^\n]*|\n +numbers\[[^\n]*;|\n +store_layout\([^\n]*;(?=\n +numbers)',
     OPENING: r'\n +\*range = [^\n]*',
@@ -44,7 +44,8 @@ EDITS = {
         ('argument or field renamed', r'\w+(?=[,;)\[])', r'\g<0>_again'),
         ('fields exchanged', r'\n( +[^\n();]*;[^\n]*)\n( +[^\n();]*;[^\n]*)', r'\n\2\n\1'),
         ('length of another type', 'size_t', 'uint64_t'),
-        ('defined in the header', r'(?s)\A\n(uint\d+_t ondristela_.*);\Z', r'\nstatic inline \1\n{\n}'),
+        ('defined in the header', r'(?s)\A\n((?:uint\d+_t|void) ondristela_.*);\Z', r'\nstatic inline \1\n{\n}'),
+        ('answer given', r'\bvoid\b', 'uint64_t'),
         ('const dropped', r'\bconst ', ''),
         ('const added', r'(?<!const )((?:struct \w+|uint\d+_t) (?:\*|\w+\[))', r'const \1'),
     ],

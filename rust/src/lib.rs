@@ -3,7 +3,7 @@
 //! A volume's place comes from its deciphered header, checked against the size of the host: the disk or
 //! file that holds it. The work is done by a library written in Rattle, in which every function is proved
 //! to meet its contract for any arguments; this crate gives it Rust's types. Data is read and written as
-//! it stands on the host, enciphered.
+//! it stands on the host, enciphered, or as plaintext, with AES-256 in XTS on the way.
 //!
 //! ```
 //! # fn record(image: &mut [u8], outer_header: &[u8], hidden_header: &[u8]) -> Result<(), ondristela::Refusal> {
@@ -24,6 +24,10 @@
 //! A sector has 512 bytes here, whatever the disk's own have. On a disk with larger ones, up to 4,096 bytes, a read or
 //! write must be of whole ones, which [`Layout::alignment`] tells, or it is refused [`Refusal::Unaligned`].
 //!
+//! [`View::read_plaintext`] and [`View::write_plaintext`] take a key of 64 bytes and decipher and encipher each sector.
+//! They are refused as reads and writes are. [`encipher`] and [`decipher`] do the same to a single sector, for a caller
+//! that moves the bytes itself. This is not constant-time; [`encipher`] tells what that means.
+//!
 //! [`NewHeader`] writes the header of a new volume, which [`open`] then accepts.
 //!
 //! A disk that is too large to map is read and written by the caller itself, where the view says. A write asks
@@ -40,6 +44,7 @@
 //! # }
 //! ```
 
+mod cipher;
 mod header;
 mod layout;
 mod opening;
@@ -47,6 +52,7 @@ pub mod raw;
 mod refusal;
 mod view;
 
+pub use cipher::{decipher, encipher};
 pub use header::NewHeader;
 pub use layout::{Kind, Layout, Magic};
 pub use opening::{key_bytes, open, Location};
@@ -64,6 +70,9 @@ pub const SALT_SIZE: usize = 64;
 
 /// The bytes of a header's keys, its last ones.
 pub const KEYS_SIZE: usize = 256;
+
+/// The bytes of the key that sectors are enciphered with: 32 for the data, then 32 for the tweak.
+pub const KEY_SIZE: usize = 64;
 
 /// At most so many candidates in one opening.
 pub const MAX_CANDIDATES: usize = 64;

@@ -1,9 +1,10 @@
 //! The library's functions as they are: numbers and slices, and a refusal number as the answer.
 //!
-//! Each returns 0 where it accepts and else a refusal number (docs/RULES.md). A refusal changes nothing that
-//! was passed for writing, but for two: 16 and 18 store the sector in the way in `sector`, where a call has it,
-//! and 18 sets the view's last number. Every other answer leaves `sector` as it was. The functions are safe for
-//! any arguments: every one is proved with no condition on them.
+//! Each returns 0 where it accepts and else a refusal number (docs/RULES.md), but for the checksum and the two that
+//! work on a unit alone, which refuse nothing. A refusal changes nothing that was passed for writing, but for two: 16
+//! and 18 store the sector in the way in `sector`, where a call has it, and 18 sets the view's last number. Every other
+//! answer leaves `sector` as it was. The functions are safe for any arguments: every one is proved with no condition
+//! on them.
 
 /// A layout's numbers: host size, kind, magic, version, min program version, data start, data size,
 /// candidate, sector size.
@@ -32,6 +33,10 @@ mod library {
         pub fn ondristela_write(view: *mut ViewNumbers, image: *mut u8, image_size: usize, first: u64, count: u64, buffer: *const u8, buffer_size: usize, sector: *mut [u64; 1]) -> u64;
         pub fn ondristela_read_extent(view: *const ViewNumbers, image_size: u64, first: u64, count: u64, buffer_size: u64, offset: *mut [u64; 1], sector: *mut [u64; 1]) -> u64;
         pub fn ondristela_write_extent(view: *mut ViewNumbers, image_size: u64, first: u64, count: u64, buffer_size: u64, offset: *mut [u64; 1], sector: *mut [u64; 1]) -> u64;
+        pub fn ondristela_encipher(key: *const [u8; 64], tweak_number: u64, unit: *mut [u8; 512]);
+        pub fn ondristela_decipher(key: *const [u8; 64], tweak_number: u64, unit: *mut [u8; 512]);
+        pub fn ondristela_read_plaintext(view: *const ViewNumbers, key: *const [u8; 64], image: *const u8, image_size: usize, first: u64, count: u64, buffer: *mut u8, buffer_size: usize, sector: *mut [u64; 1]) -> u64;
+        pub fn ondristela_write_plaintext(view: *mut ViewNumbers, key: *const [u8; 64], image: *mut u8, image_size: usize, first: u64, count: u64, buffer: *const u8, buffer_size: usize, sector: *mut [u64; 1]) -> u64;
         pub fn ondristela_crc32(bytes: *const u8, bytes_size: usize) -> u32;
     }
 }
@@ -202,6 +207,66 @@ pub fn write_extent(
     sector: &mut [u64; 1],
 ) -> u64 {
     unsafe { library::ondristela_write_extent(view, image_size, first, count, buffer_size, offset, sector) }
+}
+
+/// Enciphers a unit with AES-256 in XTS.
+pub fn encipher(key: &[u8; 64], tweak_number: u64, unit: &mut [u8; 512]) {
+    unsafe { library::ondristela_encipher(key, tweak_number, unit) }
+}
+
+/// Deciphers a unit with AES-256 in XTS.
+pub fn decipher(key: &[u8; 64], tweak_number: u64, unit: &mut [u8; 512]) {
+    unsafe { library::ondristela_decipher(key, tweak_number, unit) }
+}
+
+/// Fills the buffer as `read` does, and deciphers each sector in it.
+pub fn read_plaintext(
+    view: &ViewNumbers,
+    key: &[u8; 64],
+    image: &[u8],
+    first: u64,
+    count: u64,
+    buffer: &mut [u8],
+    sector: &mut [u64; 1],
+) -> u64 {
+    unsafe {
+        library::ondristela_read_plaintext(
+            view,
+            key,
+            image.as_ptr(),
+            image.len(),
+            first,
+            count,
+            buffer.as_mut_ptr(),
+            buffer.len(),
+            sector,
+        )
+    }
+}
+
+/// Stores the buffer as `write` does, each sector enciphered.
+pub fn write_plaintext(
+    view: &mut ViewNumbers,
+    key: &[u8; 64],
+    image: &mut [u8],
+    first: u64,
+    count: u64,
+    buffer: &[u8],
+    sector: &mut [u64; 1],
+) -> u64 {
+    unsafe {
+        library::ondristela_write_plaintext(
+            view,
+            key,
+            image.as_mut_ptr(),
+            image.len(),
+            first,
+            count,
+            buffer.as_ptr(),
+            buffer.len(),
+            sector,
+        )
+    }
 }
 
 /// CRC-32 of ITU-T V.42.

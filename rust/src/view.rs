@@ -3,7 +3,7 @@
 use std::ops::Range;
 
 use crate::raw::{self, ViewNumbers};
-use crate::{Layout, Refusal};
+use crate::{Layout, Refusal, KEY_SIZE};
 
 /// A volume to read and write. Anybody may make one up: each call checks that it is sound.
 #[derive(Clone, Debug, PartialEq, Eq, Hash)]
@@ -81,6 +81,65 @@ impl View {
         let mut numbers = self.numbers();
         let mut sector = [0];
         let answer = raw::write(&mut numbers, image, first, count, buffer, &mut sector);
+        self.locked = numbers[12] != 0;
+        Refusal::check(answer, Some(sector[0]))
+    }
+
+    /// Fills the buffer as [`read`](View::read) does, and deciphers each sector in it, with AES-256 in XTS and its host
+    /// sector as the tweak number. What a wrong key gives looks random.
+    ///
+    /// Refusals are those of [`read`](View::read), in its order; they leave the buffer as it was. What
+    /// [`encipher`](crate::encipher) says of keys and of timing is true here too.
+    pub fn read_plaintext(
+        &self,
+        key: &[u8; KEY_SIZE],
+        image: &[u8],
+        first: u64,
+        count: u64,
+        buffer: &mut [u8],
+    ) -> Result<(), Refusal> {
+        let mut sector = [0];
+        let answer = raw::read_plaintext(&self.numbers(), key, image, first, count, buffer, &mut sector);
+        Refusal::check(answer, Some(sector[0]))
+    }
+
+    /// Stores the buffer as [`write`](View::write) does, each sector enciphered with AES-256 in XTS and its host sector
+    /// as the tweak number. The buffer is left as it is.
+    ///
+    /// Refusals are those of [`write`](View::write), in its order; they leave the image as it was, and `Protected` locks
+    /// the view. What [`encipher`](crate::encipher) says of keys and of timing is true here too.
+    ///
+    /// ```
+    /// # use ondristela::{key_bytes, open, Location, Refusal, View, KEY_SIZE};
+    /// # let header = include_bytes!("../../samples/tcplay-1048576-code0.header");
+    /// # let codes = [Location::Standard.code()];
+    /// # let mut image = vec![0; 1_048_576];
+    /// # let keys = key_bytes(header, &codes, 1_048_576)?;
+    /// # let mut view = View::plain(&open(header, &codes, 1_048_576)?)?;
+    /// // The volume is enciphered with AES alone.
+    /// let key = keys[..KEY_SIZE].try_into().expect("64 of 256 bytes");
+    /// view.write_plaintext(key, &mut image, 0, 1, &[0x5A; 512])?;
+    ///
+    /// let mut sector = [0; 512];
+    /// view.read_plaintext(key, &image, 0, 1, &mut sector)?;
+    /// assert_eq!(sector, [0x5A; 512]);
+    ///
+    /// // On the host it stands enciphered.
+    /// view.read(&image, 0, 1, &mut sector)?;
+    /// assert_ne!(sector, [0x5A; 512]);
+    /// # Ok::<(), Refusal>(())
+    /// ```
+    pub fn write_plaintext(
+        &mut self,
+        key: &[u8; KEY_SIZE],
+        image: &mut [u8],
+        first: u64,
+        count: u64,
+        buffer: &[u8],
+    ) -> Result<(), Refusal> {
+        let mut numbers = self.numbers();
+        let mut sector = [0];
+        let answer = raw::write_plaintext(&mut numbers, key, image, first, count, buffer, &mut sector);
         self.locked = numbers[12] != 0;
         Refusal::check(answer, Some(sector[0]))
     }

@@ -81,7 +81,7 @@ pub fn write_extent(
 }
 
 // Stores the sector that an answer names, and returns its number.
-fn give_answer(answer: Answer, sector: &mut [u64; 1]) -> u64
+pub fn give_answer(answer: Answer, sector: &mut [u64; 1]) -> u64
     ensures { λ r. ⌜ Tells answer (now (sector .entry)) r (now (sector .exit)) ⌝ }
 {
     match answer {
@@ -114,7 +114,7 @@ fn give_placement(placement: Placement, offset: &mut [u64; 1], sector: &mut [u64
 }
 
 // Closes the lock of a view whose write was refused 18, and returns the number.
-fn lock_after(number: u64, view: &mut [u64; VIEW_SIZE]) -> u64
+pub fn lock_after(number: u64, view: &mut [u64; VIEW_SIZE]) -> u64
     ensures { λ r. ⌜ r ≡ number ⌝ }
     ensures { λ _. ⌜ now (view .exit) ≡ viewLeft number (now (view .entry)) ⌝ }
 {

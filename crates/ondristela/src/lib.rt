@@ -1,7 +1,8 @@
 // The boundary for C and Rust: the exported functions, over numbers and slices. Each hands on to a function
-// of another crate that has the same contract. Every function but the checksum's returns 0 where it accepts,
-// and else the refusal number. A refusal changes nothing that was passed for writing, but that 16 and 18 of
-// reads, writes and their extents store the first user sector in the way, and 18 closes the view's lock.
+// of another crate that has the same contract. Every function but the checksum's and the two for one unit
+// returns 0 where it accepts, and else the refusal number. A refusal changes nothing that was passed for
+// writing, but that 16 and 18 of reads, writes and their extents store the first user sector in the way, and 18
+// closes the view's lock.
 // Assumes nothing; no public function has a `requires`.
 ghost use mathlib.Core.Path.{_≡_};
 ghost use lib.ListN.{length};
@@ -16,6 +17,8 @@ ghost use Rattle.making.specs.Views.{plainView, protectedView, viewedRefusal};
 ghost use Rattle.boundary_numbers.specs.BoundaryNumbers.{layoutFrom, numberedLeft, openedLeft, viewedLeft, blockLeft};
 ghost use Rattle.boundary_opening.specs.BoundaryOpening.{keysLeft};
 ghost use Rattle.boundary_access.specs.BoundaryAccess.{ReadCall, WriteCall, ReadExtentCall, WriteExtentCall};
+ghost use Rattle.xts.specs.Units.{enciphered, deciphered};
+ghost use Rattle.boundary_plaintext.specs.BoundaryPlaintext.{PlainReadCall, PlainWriteCall};
 use boundary_numbers::LAYOUT_SIZE;
 use boundary_numbers::VIEW_SIZE;
 
@@ -214,6 +217,55 @@ pub extern "C" fn ondristela_write_extent(
     ensures { λ r. ⌜ WriteExtentCall (now (view .entry)) «image_size» first count «buffer_size» (now (offset .entry)) (now (sector .entry)) r (now (offset .exit)) (now (view .exit)) (now (sector .exit)) ⌝ }
 {
     boundary_access::write_extent(view, image_size, first, count, buffer_size, offset, sector)
+}
+
+// Enciphers a unit of 512 bytes in its place: AES-256 in XTS. The first 32 bytes of the key are for the
+// data, the next 32 for the tweak.
+#[no_mangle]
+pub extern "C" fn ondristela_encipher(key: &[u8; 64], tweak_number: u64, unit: &mut [u8; 512])
+    ensures { λ _. ⌜ now (unit .exit) ≡ enciphered (now (key .entry)) «tweak_number» (now (unit .entry)) ⌝ }
+{
+    boundary_plaintext::encipher(key, tweak_number, unit)
+}
+
+// Deciphers a unit of 512 bytes in its place.
+#[no_mangle]
+pub extern "C" fn ondristela_decipher(key: &[u8; 64], tweak_number: u64, unit: &mut [u8; 512])
+    ensures { λ _. ⌜ now (unit .exit) ≡ deciphered (now (key .entry)) «tweak_number» (now (unit .entry)) ⌝ }
+{
+    boundary_plaintext::decipher(key, tweak_number, unit)
+}
+
+// Fills the buffer with count sectors of the image, from user sector first on, each deciphered.
+#[no_mangle]
+pub extern "C" fn ondristela_read_plaintext(
+    view: &[u64; VIEW_SIZE],
+    key: &[u8; 64],
+    image: &[u8],
+    first: u64,
+    count: u64,
+    buffer: &mut [u8],
+    sector: &mut [u64; 1],
+) -> u64
+    ensures { λ r. ⌜ PlainReadCall (now (view .entry)) (now (key .entry)) (now (image .entry)) first count (now (buffer .entry)) (now (sector .entry)) r (now (buffer .exit)) (now (sector .exit)) ⌝ }
+{
+    boundary_plaintext::read(view, key, image, first, count, buffer, sector)
+}
+
+// Enciphers the buffer's sectors into the image, from user sector first on. 18 closes the view's lock.
+#[no_mangle]
+pub extern "C" fn ondristela_write_plaintext(
+    view: &mut [u64; VIEW_SIZE],
+    key: &[u8; 64],
+    image: &mut [u8],
+    first: u64,
+    count: u64,
+    buffer: &[u8],
+    sector: &mut [u64; 1],
+) -> u64
+    ensures { λ r. ⌜ PlainWriteCall (now (view .entry)) (now (key .entry)) (now (image .entry)) first count (now (buffer .entry)) (now (sector .entry)) r (now (image .exit)) (now (view .exit)) (now (sector .exit)) ⌝ }
+{
+    boundary_plaintext::write(view, key, image, first, count, buffer, sector)
 }
 
 // CRC-32 of ITU-T V.42.
