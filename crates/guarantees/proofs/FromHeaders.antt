@@ -55,6 +55,6 @@ from-headers outerHeader hiddenHeader outerCode hiddenCode hostSize =
             hiddenArea = has-area hidden;
             outerView = makes-views outerLayout hiddenLayout .guardedMade outerSound hiddenSound nested;
             hiddenView = makes-views hiddenLayout hiddenLayout .plainMade hiddenSound;
-            demand3 = demand-3 outerLayout hiddenLayout .holds outerSound hiddenSound nested;
+            demand3 = λ outerKey hiddenKey. demand-3 outerLayout hiddenLayout outerKey hiddenKey .holds outerSound hiddenSound nested;
           };
     }

@@ -9,7 +9,7 @@ use Rattle.answers.specs.{Answers.{isAccepted, answerRefusal, Naming, unnamed, 
 use Rattle.layout.specs.declared.Layout.{Layout}
 use Rattle.sector_map.specs.SectorMap.{sectors}
 use Rattle.guarantees.specs.ReferenceModel.{isWrite, lockLeft}
-use Rattle.guarantees.specs.Table.{Operation, reads, writes, Call, firstPast, isWhole, check, unlessAt, later, tabled}
+use Rattle.guarantees.specs.Table.{Operation, reads, writes, Form, Call, firstPast, isWhole, check, unlessAt, later, tabled}
 
 -- an extent inside a layout, with an image and a buffer of the right lengths
 pub record Fits (layout : Layout) (imageSize : ℕ) (call : Call) : Type 0 where
@@ -64,10 +64,11 @@ later-untouched writes false (named sector) w e = absurd (true≢false (sym e))
 later-untouched writes true touched w e = absurd (true≢false (sym e))
 
 -- a read leaves the lock
-pub read-lock : (layout : Layout) (first count : ℕ) (buffer : List ℕ) (locked : Bool) (touched : Naming) (imageSize : ℕ)
-    → lockLeft (tabled layout locked touched imageSize (record { operation = reads; first = first; count = count; buffer = buffer })) locked ≡ locked
+pub read-lock : (layout : Layout) (form : Form) (first count : ℕ) (buffer : List ℕ) (locked : Bool) (touched : Naming) (imageSize : ℕ)
+    → lockLeft (tabled layout locked touched imageSize (record { form = form; operation = reads; first = first; count = count; buffer = buffer })) locked
+    ≡ locked
 unfolding tabled later
-read-lock layout first count buffer locked touched imageSize =
+read-lock layout form first count buffer locked touched imageSize =
     in-order-lock (firstPast layout first count) (eqb imageSize (layout .«host_size»)) (leb count 128) (eqb (length buffer) (count * 512))
     (isWhole layout first && isWhole layout count) (leb (first + count) (layout .«data_size» / 512)) locked
 

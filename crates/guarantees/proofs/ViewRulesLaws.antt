@@ -1,7 +1,7 @@
 -- The rules of a view of a sound layout are lawful, and those of two views whose layouts nest keep apart. Assumes nothing.
 use Prim.Native.Nat.{ℕ, _+_, _*_, _≤_}
 use native.Mathlib.Omega.{arith}
-use mathlib.Core.{Path.{_≡_, sym, ap, _∙_}, Bool.true}
+use mathlib.Core.{Path.{_≡_, sym, ap, _∙_}, Bool.true, List.List}
 use borrow.Author.Tests.{le-leb, lt-ltb}
 use Rattle.layout.specs.declared.Layout.{Layout}
 use Rattle.sector_map.specs.SectorMap.{sectors, firstSector}
@@ -14,6 +14,7 @@ use Rattle.guarantees.specs.{ReferenceModel.{inRange, firstProtected, ho
 use Rattle.guarantees.specs.{Table.Call, Views.area}
 use Rattle.guarantees.proofs.CoversLaws.{consecutive, length-consecutive, every-consecutive, distinct-consecutive}
 use Rattle.guarantees.proofs.ExtentLaws.{covers-extent}
+use Rattle.guarantees.proofs.FormLaws.{stored-sized, shown-sized}
 use Rattle.guarantees.proofs.RangeLaws.{each-outside}
 use Rattle.guarantees.proofs.SoundLaws.{sound-on-sectors}
 use Rattle.guarantees.proofs.TableLaws.{Fits, tabled-accepted, later-untouched}
@@ -51,24 +52,24 @@ module _ (layout : Layout) (s : Sound layout) (size : ℕ) (call : Call) (fits :
         lt-ltb (host * 512) (layout .«data_start» + layout .«data_size») (omega (arith, fits .inside, sound-on-sectors layout s)),
       )))
 
-module _ (layout : Layout) (protection : Protection) (s : Sound layout) where
-  pub view-lawful : Lawful (viewRules layout protection)
+module _ (layout : Layout) (protection : Protection) (key : List ℕ) (s : Sound layout) where
+  pub view-lawful : Lawful (viewRules layout protection key)
   unfolding viewRules
   view-lawful =
       record {
         fitting = λ call locked size e.
             call-fitting layout s size call (tabled-accepted layout call locked (firstProtected layout protection (call .first) (call .count)) size e .0);
-        storedSized = λ call host bytes size. size;
-        shownSized = λ call host bytes size. size;
+        storedSized = λ call. stored-sized (call .form) key;
+        shownSized = λ call. shown-sized (call .form) key;
       }
 
-module _ (outerLayout hiddenLayout : Layout) (outerSound : Sound outerLayout) (hiddenSound : Sound hiddenLayout) where
-  pub sides-lawful : (side : Side) → Lawful (sideRules outerLayout hiddenLayout side)
+module _ (outerLayout hiddenLayout : Layout) (outerKey hiddenKey : List ℕ) (outerSound : Sound outerLayout) (hiddenSound : Sound hiddenLayout) where
+  pub sides-lawful : (side : Side) → Lawful (sideRules outerLayout hiddenLayout outerKey hiddenKey side)
   unfolding sideRules sideLayout
-  sides-lawful outer = view-lawful outerLayout (sideProtection outerLayout hiddenLayout outer) outerSound
-  sides-lawful hidden = view-lawful hiddenLayout (sideProtection outerLayout hiddenLayout hidden) hiddenSound
+  sides-lawful outer = view-lawful outerLayout _ _ outerSound
+  sides-lawful hidden = view-lawful hiddenLayout _ _ hiddenSound
 
-  pub sides-apart : Apart (sideRules outerLayout hiddenLayout) (inRange (area hiddenLayout))
+  pub sides-apart : Apart (sideRules outerLayout hiddenLayout outerKey hiddenKey) (inRange (area hiddenLayout))
   unfolding sideRules sideLayout sideProtection viewRules hostsOf
   sides-apart =
       record {
@@ -78,6 +79,5 @@ module _ (outerLayout hiddenLayout : Layout) (outerSound : Sound outerLayout) (h
             each-outside outerLayout (area hiddenLayout) (call .first) (call .count) (later-untouched (call .operation) locked touched isWrite kept);
         hiddenCalls = λ call locked size e.
             each-inside hiddenLayout hiddenSound size call
-            (tabled-accepted hiddenLayout call locked
-            (firstProtected hiddenLayout (sideProtection outerLayout hiddenLayout hidden) (call .first) (call .count)) size e .0);
+            (tabled-accepted hiddenLayout call locked _ size e .0);
       }

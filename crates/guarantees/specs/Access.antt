@@ -1,6 +1,7 @@
--- Reads and writes on any view, made-up ones too (RULES.md, Reads and writes): 11 exactly for an unsound view, and else the table of
--- refusals, with 18 over the host sectors that the map gives; and what each call leaves, sector by sector. `readAnswer`, `writeAnswer`,
--- `filledBy`, `writtenBy`, `ReadPost` and `WritePost` are the definitions that the contracts of `access` and `view` cite. Assumes nothing.
+-- Reads and writes of raw bytes on any view, made-up ones too (RULES.md, Reads and writes): 11 exactly for an unsound view, and else the
+-- table of refusals, with 18 over the host sectors that the map gives; and what each call leaves, sector by sector, whatever the key.
+-- `readAnswer`, `writeAnswer`, `filledBy`, `writtenBy`, `ReadPost` and `WritePost` are the definitions that the contracts of `access` and
+-- `view` cite. Assumes nothing.
 use Prim.Native.Nat.{ℕ}
 use mathlib.Core.{Path._≡_, Bool.Bool, List.List}
 use lib.ListN.{length}
@@ -10,14 +11,14 @@ use Rattle.access.specs.Moving.{filledBy, writtenBy}
 use Rattle.view.specs.Outcomes.{ReadPost, WritePost}
 use Rattle.view.specs.declared.{Outcome.Outcome, View.View}
 use Rattle.model.specs.Model.{Rules, bufferAfter, imageAfter}
-use Rattle.guarantees.specs.{ReferenceModel.{lockLeft, viewRules}, Table.{Operation, reads, writes, Call}, Views.SoundView}
+use Rattle.guarantees.specs.{ReferenceModel.{lockLeft, viewRules}, Table.{Operation, reads, writes, Form, raw, Call}, Views.SoundView}
 
 module _ (view : View) (image : List ℕ) (first count : ℕ) (buffer : List ℕ) where
-  -- the call, and the rules of its view
-  abbrev pub call : Operation → Call
-  call operation = record { operation = operation; first = first; count = count; buffer = buffer }
+  -- the call in a form, and the rules of its view with a key
+  abbrev pub call : Form → Operation → Call
+  call form operation = record { form = form; operation = operation; first = first; count = count; buffer = buffer }
 
-  abbrev pub rules : Rules Call Bool Answer
+  abbrev pub rules : List ℕ → Rules Call Bool Answer
   rules = viewRules (view .layout) (view .protection)
 
   -- the answer to a read, and to a write
@@ -39,11 +40,11 @@ module _ (view : View) (image : List ℕ) (first count : ℕ) (buffer : List ℕ
     -- the answer
     pub unsoundRead : (SoundView view → ⊥) → readBy ≡ Refused 11
     pub unsoundWrite : (SoundView view → ⊥) → writeBy ≡ Refused 11
-    pub readTabled : SoundView view → readBy ≡ rules .judge (call reads) (view .locked) (length image)
-    pub writeTabled : SoundView view → writeBy ≡ rules .judge (call writes) (view .locked) (length image)
-    -- the bytes: a read's buffer and a write's image
-    pub filled : filledWith ≡ bufferAfter rules (call reads) readBy image
-    pub written : writtenWith ≡ imageAfter rules (call writes) writeBy image
+    pub readTabled : (key : List ℕ) → SoundView view → readBy ≡ rules key .judge (call raw reads) (view .locked) (length image)
+    pub writeTabled : (key : List ℕ) → SoundView view → writeBy ≡ rules key .judge (call raw writes) (view .locked) (length image)
+    -- the bytes: a read's buffer and a write's image, the same for every key
+    pub filled : (key : List ℕ) → filledWith ≡ bufferAfter (rules key) (call raw reads) readBy image
+    pub written : (key : List ℕ) → writtenWith ≡ imageAfter (rules key) (call raw writes) writeBy image
     -- what the calls of the view hand back: the answer, and the view, which only a write's 18 changes
     pub readBack : (outcome : Outcome) (after : List ℕ) → ReadPost view image first count buffer outcome after
         → (outcome .answer ≡ readBy) × (outcome .view ≡ view) × (after ≡ filledWith)

@@ -5,12 +5,14 @@ use Rattle.extent.specs.declared.Extent.{Extent}
 use Rattle.layout.specs.declared.Layout.{Layout}
 use Rattle.protection.specs.declared.Protection.{Protection}
 use Rattle.view.specs.declared.View.{View}
+use Rattle.plaintext.specs.declared.KeyedView.{KeyedView}
 use Rattle.guarantees.specs.{Access.AccessesByTable, Boundary.{TellsNumbers, ReturnsZero, OrdersNumbers, StoresAnswers}}
-use Rattle.guarantees.specs.{BoundaryRuns.{Numbers, CarriesRuns, BeginsRuns}, Extents.{SharesLeast, EndsBy}}
+use Rattle.guarantees.specs.{BoundaryRuns.{Numbers, CarriesRuns, BeginsRuns}, Enciphering.{KeepsField, EnciphersExactly, SpellsTweaks, TweaksSectors}}
+use Rattle.guarantees.specs.Extents.{SharesLeast, EndsBy}
 use Rattle.guarantees.specs.{FromHeaders.FromHeaders, InTheWay.NamesSectors, Interleaving.Demand3, Judging.{KeepsRules, JudgesExactly, GivesKeys}}
 use Rattle.guarantees.specs.{MapProgram.{ReadsInput, PrintsLines}, Numbers.{SpellsNumbers, ChecksBytes}}
 use Rattle.guarantees.specs.{Opening.{OpensExactlyWhen, LocatesHeaders}, Parts.KeepsParts, Placing.{PlacesExtents, PlacesNumbers}}
-use Rattle.guarantees.specs.{SameAt512.SameAt512, SectorMap.{MapsExactly, OpenedIsSound}, Views.MakesViews}
+use Rattle.guarantees.specs.{Plaintext.{PlaintextByTable, GivesBack, TellsAsRaw}, SameAt512.SameAt512, SectorMap.{MapsExactly, OpenedIsSound}, Views.MakesViews}
 use Rattle.guarantees.specs.Writing.{Request, WritesExactly, LaysHeaders, ReadsBack, WritesAgain}
 
 pub record Claims : Type 0 where
@@ -37,8 +39,15 @@ pub record Claims : Type 0 where
   pub accesses : (view : View) (image : List ℕ) (first count : ℕ) (buffer : List ℕ) → AccessesByTable view image first count buffer
   pub named : (view : View) (image : List ℕ) (first count : ℕ) (buffer : List ℕ) → NamesSectors view image first count buffer
   pub placed : (view : View) (image : List ℕ) (first count : ℕ) (buffer : List ℕ) → PlacesExtents view image first count buffer
+  -- .. of plaintext, and what enciphers it
+  pub plaintexts : (keyed : KeyedView) (image : List ℕ) (first count : ℕ) (buffer : List ℕ) → PlaintextByTable keyed image first count buffer
+  pub givenBack : (keyed : KeyedView) (image : List ℕ) (first count : ℕ) (buffer : List ℕ) → GivesBack keyed image first count buffer
+  pub field : KeepsField
+  pub enciphers : (key : List ℕ) (number : ℕ) (unit : List ℕ) → EnciphersExactly key number unit
+  pub tweaks : (number other : ℕ) → SpellsTweaks number other
+  pub tweaked : (layout : Layout) → TweaksSectors layout
   -- demand 3, and from two headers to it
-  pub demand3 : (outerLayout hiddenLayout : Layout) → Demand3 outerLayout hiddenLayout
+  pub demand3 : (outerLayout hiddenLayout : Layout) (outerKey hiddenKey : List ℕ) → Demand3 outerLayout hiddenLayout outerKey hiddenKey
   pub fromHeaders : (outerHeader hiddenHeader : List ℕ) (outerCode hiddenCode hostSize : ℕ)
       → FromHeaders outerHeader hiddenHeader outerCode hiddenCode hostSize
   -- the boundary for C and Rust
@@ -47,10 +56,12 @@ pub record Claims : Type 0 where
   pub ordered : (host kind magic version program start size candidate sectors protected first end lock : ℕ)
       → OrdersNumbers host kind magic version program start size candidate sectors protected first end lock
   pub stored : (before : List ℕ) → StoresAnswers before
-  pub begun : (outerLayout hiddenLayout : Layout) → BeginsRuns outerLayout hiddenLayout
+  pub begun : (outerLayout hiddenLayout : Layout) (outerKey hiddenKey : List ℕ) → BeginsRuns outerLayout hiddenLayout outerKey hiddenKey
   pub carried : (numbers : Numbers) → CarriesRuns numbers
   pub placedNumbers : (view image : List ℕ) (first count : ℕ) (buffer offsetBefore sectorBefore : List ℕ)
       → PlacesNumbers view image first count buffer offsetBefore sectorBefore
+  pub toldAsRaw : (view key image : List ℕ) (first count : ℕ) (buffer sectorBefore : List ℕ)
+      → TellsAsRaw view key image first count buffer sectorBefore
   -- the map program
   pub input : ReadsInput
   pub output : PrintsLines

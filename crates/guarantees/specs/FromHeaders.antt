@@ -1,5 +1,5 @@
 -- From headers to demand 3: two candidates that open at their location codes for one host size, with one sector size, and whose data areas
--- nest, give views for which demand 3 holds, with the data areas that the headers tell. Assumes nothing.
+-- nest, give views for which demand 3 holds, with any two keys and the data areas that the headers tell. Assumes nothing.
 use Prim.Native.Nat.{ℕ, _+_, _≤_}
 use mathlib.Core.{Path._≡_, Bool.{Bool, false}, List.{List, [], _∷_}}
 use Rattle.layout.specs.declared.{Layout.Layout, Opened.the-variants.Accepted}
@@ -31,7 +31,8 @@ pub record ViewsHold (outerHeader hiddenHeader : List ℕ) (hostSize : ℕ) (out
   pub hiddenArea : HasArea hostSize hiddenHeader hiddenLayout
   pub outerView : protectedView outerLayout hiddenLayout ≡ Made (protecting outerLayout hiddenLayout false)
   pub hiddenView : plainView hiddenLayout ≡ Made (plain hiddenLayout false)
-  pub demand3 : (model : State (Both Bool)) (xs ys : List Call) → Interleaved outerLayout hiddenLayout model xs ys
+  pub demand3 : (outerKey hiddenKey : List ℕ) (model : State (Both Bool)) (xs ys : List Call)
+      → Interleaved outerLayout hiddenLayout outerKey hiddenKey model xs ys
 
 -- the claim, for any bytes
 pub record FromHeaders (outerHeader hiddenHeader : List ℕ) (outerCode hiddenCode hostSize : ℕ) : Type 0 where

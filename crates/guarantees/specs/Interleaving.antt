@@ -1,31 +1,20 @@
--- Demand 3 (RULES.md, Interleavings): one claim over two lists of calls, on an outer view that protects the hidden range and on that
--- hidden view, over one image. A run's steps are stated with `ReadPost` and `WritePost`, the predicates that the contracts of
--- `View::read` and `View::write` cite; the reference model is that of `model`, by the rules of the two views. Assumes nothing.
+-- Demand 3 (RULES.md, Interleavings): one claim over two lists of calls, raw and plaintext ones mixed, on an outer view that protects the
+-- hidden range and on that hidden view, each with one key, over one image. A run's steps are calls that keep their contracts; the reference
+-- model is that of `model`, by the rules of the two views. The keys may be any lists of numbers, and where all calls are raw they play no
+-- part. Assumes nothing.
 use Prim.Native.Nat.{ℕ}
 use mathlib.Core.{Path._≡_, Bool.Bool, List.{List, _∷_, _++_, map}}
 use Rattle.answers.specs.declared.Answer.{Answer, the-variants.Accepted}
 use Rattle.layout.specs.declared.Layout.{Layout}
-use Rattle.view.specs.Outcomes.{ReadPost, WritePost}
 use Rattle.protection.specs.declared.Protection.{Protection, the-variants.Unprotected}
 use Rattle.view.specs.declared.View.{View}
+use Rattle.plaintext.specs.declared.KeyedView.{KeyedView}
 use Rattle.model.specs.{Model.{Rules, State, stateWith, Reply, replies, final, contents}, Runs.Run, Sectors.{sectorAt, gather}}
 use Rattle.model.specs.Sides.{Side, outer, hidden, Turn, Interleaves, Both, at, eachWith, OnSide, sided, bySide, unprotected}
-use Rattle.guarantees.specs.{InTheWay.NamesFirst, ReferenceModel.{inRange, hostsOf, viewRules}, SectorMap.Sound}
-use Rattle.guarantees.specs.{Table.{Operation, reads, writes, Call}, Views.{area, plain, protecting, Nested}}
+use Rattle.guarantees.specs.{InTheWay.NamesFirst, ReferenceModel.{inRange, hostsOf, shownAs, viewRules}, SectorMap.Sound}
+use Rattle.guarantees.specs.{Steps.Step, Table.{reads, Call}, Views.{area, plain, protecting, Nested}}
 
--- a call that keeps its contract, by what it does: a read leaves the image, a write its buffer
-unfoldable pub KeepsContract : Operation → State View → ℕ → ℕ → List ℕ → Reply Answer → State View → Type 0
-KeepsContract reads state first count buffer given after =
-    ReadPost (state .held) (state .image) first count buffer (record { view = after .held; answer = given .answer }) (given .buffer)
-    × (after .image ≡ state .image)
-KeepsContract writes state first count buffer given after =
-    WritePost (state .held) (state .image) first count buffer (record { view = after .held; answer = given .answer }) (after .image)
-    × (given .buffer ≡ buffer)
-
-abbrev pub Step : State View → Call → Reply Answer → State View → Type 0
-Step state call given after = KeepsContract (call .operation) state (call .first) (call .count) (call .buffer) given after
-
-module _ (outerLayout hiddenLayout : Layout) where
+module _ (outerLayout hiddenLayout : Layout) (outerKey hiddenKey : List ℕ) where
   -- the layout of a side
   unfoldable pub sideLayout : Side → Layout
   sideLayout outer = outerLayout
@@ -41,17 +30,26 @@ module _ (outerLayout hiddenLayout : Layout) where
   sideProtection outer = area hiddenLayout
   sideProtection hidden = Unprotected
 
+  -- its key
+  unfoldable pub sideKey : Side → List ℕ
+  sideKey outer = outerKey
+  sideKey hidden = hiddenKey
+
+  -- its view, with its lock and its key
+  unfoldable pub sideKeyed : Side → Bool → KeyedView
+  sideKeyed side locked = record { view = sideView side locked; key = sideKey side }
+
   -- its rules
   unfoldable pub sideRules : Side → Rules Call Bool Answer
-  sideRules side = viewRules (sideLayout side) (sideProtection side)
+  sideRules side = viewRules (sideLayout side) (sideProtection side) (sideKey side)
 
   -- the model's rules
   abbrev pub bothRules : Rules (Turn Call) (Both Bool) Answer
   bothRules = sided sideRules
 
-  -- both views with a model's locks, over its image
-  abbrev pub viewsOf : State (Both Bool) → State (Both View)
-  viewsOf model = stateWith (eachWith sideView) model
+  -- both views with a model's locks, and with their keys, over its image
+  abbrev pub viewsOf : State (Both Bool) → State (Both KeyedView)
+  viewsOf model = stateWith (eachWith sideKeyed) model
 
   -- an outer call's reply, but for what a read gives of the protected sectors
   abbrev pub outsideProtected : Call × Reply Answer → Answer × List (List ℕ)
@@ -59,18 +57,18 @@ module _ (outerLayout hiddenLayout : Layout) where
 
   -- from a model's start: an image of any length and content, and each lock open or closed
   module _ (model : State (Both Bool)) where
-    -- a run is the reference model's: replies, image and locks; layouts and ranges are as they began
-    pub record Agrees (turns : List (Turn Call)) (answers : List (Reply Answer)) (last : State (Both View)) : Type 0 where
+    -- a run is the reference model's: replies, image and locks; layouts, ranges and keys are as they began
+    pub record Agrees (turns : List (Turn Call)) (answers : List (Reply Answer)) (last : State (Both KeyedView)) : Type 0 where
       pub sameReplies : answers ≡ replies bothRules turns model
       pub sameImage : last .image ≡ final bothRules turns model .image
-      pub sameViews : last .held ≡ eachWith sideView (final bothRules turns model .held)
+      pub sameViews : last .held ≡ eachWith sideKeyed (final bothRules turns model .held)
 
     -- a run from there: each call finds its view and the image as the calls before it left them
-    abbrev pub Runs : List (Turn Call) → List (Reply Answer) → State (Both View) → Type 0
+    abbrev pub Runs : List (Turn Call) → List (Reply Answer) → State (Both KeyedView) → Type 0
     Runs turns answers last = Run (OnSide Step) (viewsOf model) turns answers last
 
     -- two runs agree, but for what outer reads give of protected sectors
-    pub record Independent (turns others : List (Turn Call)) (answers otherAnswers : List (Reply Answer)) (last otherLast : State (Both View)) : Type 0 where
+    pub record Independent (turns others : List (Turn Call)) (answers otherAnswers : List (Reply Answer)) (last otherLast : State (Both KeyedView)) : Type 0 where
       pub sameEnd : last ≡ otherLast
       pub hiddenReplies : map (λ r. r .1) (at hidden (bySide turns answers)) ≡ map (λ r. r .1) (at hidden (bySide others otherAnswers))
       pub outerReplies : map outsideProtected (at outer (bySide turns answers)) ≡ map outsideProtected (at outer (bySide others otherAnswers))
@@ -78,32 +76,35 @@ module _ (outerLayout hiddenLayout : Layout) where
     -- the claim, for any two lists
     pub record Interleaved (xs ys : List Call) : Type 0 where
       -- every interleaving has a run
-      pub runs : (turns : List (Turn Call)) → Interleaves xs ys turns → (answers : List (Reply Answer)) × (last : State (Both View)) × Runs turns answers last
+      pub runs : (turns : List (Turn Call)) → Interleaves xs ys turns → (answers : List (Reply Answer)) × (last : State (Both KeyedView)) × Runs turns answers last
       -- every run is the reference model's
-      pub agrees : (turns : List (Turn Call)) (answers : List (Reply Answer)) (last : State (Both View)) → Interleaves xs ys turns
+      pub agrees : (turns : List (Turn Call)) (answers : List (Reply Answer)) (last : State (Both KeyedView)) → Interleaves xs ys turns
           → Runs turns answers last → Agrees turns answers last
-      -- each sector ends with the last accepted write that covers it, or as it began
-      pub lastWrite : (turns : List (Turn Call)) (answers : List (Reply Answer)) (last : State (Both View)) → Interleaves xs ys turns
+      -- each sector ends as the last accepted write that covers it left it, its raw bytes or its plaintext enciphered, or as it began
+      pub lastWrite : (turns : List (Turn Call)) (answers : List (Reply Answer)) (last : State (Both KeyedView)) → Interleaves xs ys turns
           → Runs turns answers last → (host : ℕ) → sectorAt host (last .image) ≡ contents bothRules host turns answers (sectorAt host (model .image))
-      -- an accepted read gives each sector as the accepted writes before it left it, or as it began
+      -- an accepted read gives each sector as the accepted writes before it left it, or as it began: a raw one its bytes, a plaintext one its
+      -- bytes deciphered
       pub readsLeft : (before : List (Turn Call)) (turn : Turn Call) (after : List (Turn Call)) (answers : List (Reply Answer)) (given : Reply Answer)
-          (middle next : State (Both View)) → Interleaves xs ys (before ++ (turn ∷ after))
+          (middle next : State (Both KeyedView)) → Interleaves xs ys (before ++ (turn ∷ after))
           → Runs before answers middle → OnSide Step middle turn given next
           → turn .call .operation ≡ reads → given .answer ≡ Accepted
           → given .buffer
-          ≡ gather (λ host. contents bothRules host before answers (sectorAt host (model .image))) (hostsOf (sideLayout (turn .side)) (turn .call))
+          ≡ gather
+          (λ host. shownAs (turn .call .form) (sideKey (turn .side)) host (contents bothRules host before answers (sectorAt host (model .image))))
+          (hostsOf (sideLayout (turn .side)) (turn .call))
       -- a refused call names the first sector in its way: of 16 the larger of u and V/512, of 18, which only outer calls are refused by, the
       -- larger of u and the hidden volume's first sector as the outer view counts it
       pub inTheWay : (before : List (Turn Call)) (turn : Turn Call) (after : List (Turn Call)) (answers : List (Reply Answer)) (given : Reply Answer)
-          (middle next : State (Both View)) → Interleaves xs ys (before ++ (turn ∷ after))
+          (middle next : State (Both KeyedView)) → Interleaves xs ys (before ++ (turn ∷ after))
           → Runs before answers middle → OnSide Step middle turn given next
           → NamesFirst (sideLayout (turn .side)) (sideProtection (turn .side)) (turn .call .first) (given .answer)
       -- any two interleavings end alike, and give each list the same, but for what outer reads give of protected sectors
-      pub independent : (turns others : List (Turn Call)) (answers otherAnswers : List (Reply Answer)) (last otherLast : State (Both View))
+      pub independent : (turns others : List (Turn Call)) (answers otherAnswers : List (Reply Answer)) (last otherLast : State (Both KeyedView))
           → Interleaves xs ys turns → Interleaves xs ys others → Runs turns answers last → Runs others otherAnswers otherLast
           → Independent turns others answers otherAnswers last otherLast
 
--- demand 3: for any two sound layouts that nest
-pub record Demand3 (outerLayout hiddenLayout : Layout) : Type 0 where
+-- demand 3: for any two sound layouts that nest, and any two keys
+pub record Demand3 (outerLayout hiddenLayout : Layout) (outerKey hiddenKey : List ℕ) : Type 0 where
   pub holds : Sound outerLayout → Sound hiddenLayout → Nested outerLayout hiddenLayout
-      → (model : State (Both Bool)) (xs ys : List Call) → Interleaved outerLayout hiddenLayout model xs ys
+      → (model : State (Both Bool)) (xs ys : List Call) → Interleaved outerLayout hiddenLayout outerKey hiddenKey model xs ys

@@ -2,6 +2,7 @@ pub mod Access
 pub mod Boundary
 pub mod BoundaryRuns
 pub mod Claims
+pub mod Enciphering
 pub mod Extents
 pub mod FromHeaders
 pub mod Header
@@ -13,9 +14,11 @@ pub mod Numbers
 pub mod Opening
 pub mod Parts
 pub mod Placing
+pub mod Plaintext
 pub mod ReferenceModel
 pub mod SameAt512
 pub mod SectorMap
+pub mod Steps
 pub mod Table
 pub mod Views
 pub mod Writing

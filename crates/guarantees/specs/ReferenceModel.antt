@@ -1,5 +1,6 @@
--- The rules by which the reference model goes (RULES.md, The reference model), for a view of a layout and what it protects: it judges by the
--- table of refusals and moves raw bytes, sector by sector over the sector map. Assumes nothing.
+-- The rules by which the reference model goes (RULES.md, The reference model), for a view of a layout and what it protects, with a key: it
+-- judges by the table of refusals and moves bytes sector by sector over the sector map, raw ones as they are and plaintext enciphered, with
+-- the sector's number in the host for a tweak. Assumes nothing.
 use Prim.Native.Nat.{ℕ, _*_}
 use mathlib.Core.{Bool.{Bool, true, false, _&&_, cond}, List.List}
 use lib.Dec.{leb, ltb, eqb}
@@ -9,8 +10,9 @@ use Rattle.answers.specs.declared.Numbered.the-variants as numbered
 use Rattle.layout.specs.declared.Layout.{Layout}
 use Rattle.protection.specs.declared.Protection.{Protection, the-variants.{Unprotected, Protected}}
 use Rattle.sector_map.specs.SectorMap.{hostSector}
+use Rattle.xts.specs.Units.{enciphered, deciphered}
 use Rattle.model.specs.Model.{Rules}
-use Rattle.guarantees.specs.Table.{Operation, reads, writes, Call, firstOf, tabled, covers}
+use Rattle.guarantees.specs.Table.{Operation, reads, writes, Form, raw, plaintext, Call, firstOf, tabled, covers}
 
 -- a call writes
 unfoldable pub isWrite : Operation → Bool
@@ -41,9 +43,19 @@ firstProtected layout protection first count = firstOf (λ user. isProtected pro
 unfoldable pub hostsOf : Layout → Call → List ℕ
 hostsOf layout call = covers layout (call .first) (call .count)
 
--- the rules: sectors keep and show bytes as they are
-unfoldable pub viewRules : Layout → Protection → Rules Call Bool Answer
-viewRules layout protection =
+-- a piece of a buffer as a host sector keeps it, by the form of the call and the key
+unfoldable pub storedAs : Form → (key : List ℕ) → (host : ℕ) → List ℕ → List ℕ
+storedAs raw key host piece = piece
+storedAs plaintext key host piece = enciphered key host piece
+
+-- a host sector's bytes as a call reads them
+unfoldable pub shownAs : Form → (key : List ℕ) → (host : ℕ) → List ℕ → List ℕ
+shownAs raw key host bytes = bytes
+shownAs plaintext key host bytes = deciphered key host bytes
+
+-- the rules, with a key that stays
+unfoldable pub viewRules : Layout → Protection → (key : List ℕ) → Rules Call Bool Answer
+viewRules layout protection key =
     record {
       buffer = λ call. call .buffer;
       writes = λ call. isWrite (call .operation);
@@ -51,6 +63,6 @@ viewRules layout protection =
       judge = λ call locked imageSize. tabled layout locked (firstProtected layout protection (call .first) (call .count)) imageSize call;
       accepts = λ call. isAccepted;
       lockAfter = λ call. lockLeft;
-      stored = λ call host piece. piece;
-      shown = λ call host bytes. bytes;
+      stored = λ call. storedAs (call .form) key;
+      shown = λ call. shownAs (call .form) key;
     }

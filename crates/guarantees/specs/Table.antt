@@ -13,8 +13,13 @@ use Rattle.sector_map.specs.SectorMap.{hostSector}
 pub data Operation : Type 0 where
   reads writes : Operation
 
--- a call as listed: what it does, its extent, and its buffer's bytes as borrowed
+-- in which form a call's bytes are: raw, as the host has them, or plaintext, which is enciphered there
+pub data Form : Type 0 where
+  raw plaintext : Form
+
+-- a call as listed: the form of its bytes, what it does, its extent, and its buffer's bytes as borrowed
 pub record Call : Type 0 where
+  pub form : Form
   pub operation : Operation
   pub first : ℕ
   pub count : ℕ
@@ -57,7 +62,8 @@ unfoldable pub later : Operation → Bool → Naming → Answer
 later reads locked touched = Accepted
 later writes locked touched = check (Refused 17) (not locked) (unlessAt 18 touched)
 
--- the answer to a call on a view of a layout, by the image's length: the checks in order (a sound view is not refused 11)
+-- the answer to a call on a view of a layout, by the image's length: the checks in order (a sound view is not refused 11), the same in
+-- either form
 unfoldable pub tabled : Layout → Bool → Naming → ℕ → Call → Answer
 tabled layout locked touched imageSize call =
     check (Refused 13) (eqb imageSize (layout .«host_size»))

@@ -2,6 +2,7 @@
 use Rattle.guarantees.proofs.Access.{accesses-by-table}
 use Rattle.guarantees.proofs.Boundary.{tells-numbers, returns-zero, orders-numbers, stores-answers}
 use Rattle.guarantees.proofs.BoundaryRuns.{carries-runs, begins-runs}
+use Rattle.guarantees.proofs.Enciphering.{keeps-field, enciphers-exactly, spells-tweaks, tweaks-sectors}
 use Rattle.guarantees.proofs.Extents.{shares-least, ends-by}
 use Rattle.guarantees.proofs.FromHeaders.{from-headers}
 use Rattle.guarantees.proofs.InTheWay.{names-sectors}
@@ -13,6 +14,7 @@ use Rattle.guarantees.proofs.Numbers.{spells-numbers, checks-bytes}
 use Rattle.guarantees.proofs.Opening.{opens-exactly-when, locates-headers}
 use Rattle.guarantees.proofs.Parts.{keeps-parts}
 use Rattle.guarantees.proofs.Placing.{places-extents, places-numbers}
+use Rattle.guarantees.proofs.Plaintext.{gives-back, plaintext-by-table, tells-as-raw}
 use Rattle.guarantees.proofs.ReadsBack.{reads-back}
 use Rattle.guarantees.proofs.SameAt512.{same-at-512}
 use Rattle.guarantees.proofs.SectorMap.{maps-exactly, opened-sound}
@@ -45,6 +47,12 @@ returns c =
       accesses = accesses-by-table;
       named = names-sectors;
       placed = places-extents;
+      plaintexts = plaintext-by-table;
+      givenBack = gives-back;
+      field = keeps-field;
+      enciphers = enciphers-exactly;
+      tweaks = spells-tweaks;
+      tweaked = tweaks-sectors;
       demand3 = demand-3;
       fromHeaders = from-headers;
       told = tells-numbers;
@@ -54,6 +62,7 @@ returns c =
       begun = begins-runs;
       carried = carries-runs;
       placedNumbers = places-numbers;
+      toldAsRaw = tells-as-raw;
       input = reads-input;
       output = prints-lines;
       at512 = same-at-512;
