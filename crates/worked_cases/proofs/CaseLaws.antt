@@ -3,6 +3,13 @@
 use Prim.Native.Nat.{ℕ}
 use mathlib.Core.{Path.{_≡_, refl, sym, _∙_}, List.{List, _++_, map, map-append}}
 use Rattle.numbers.specs.Numbers.{bigEndian, bigEndianFrom, bigEndianBytes, littleEndianBytes}
+use Rattle.bits.specs.Bits.{entries}
+use Rattle.aes_steps.specs.Field.{timesX, whereSet, productOf, product, squares, inverse}
+use Rattle.aes_steps.specs.SBox.{bit, byteOf, affine, substituted}
+use Rattle.aes_steps.specs.Blocks.{byteAt, word, eachByte, block, inFours, blockByte, bytesOf, subBytes, shiftRows, mixed, mixedWord, eachColumn, mixColumns, addRoundKey}
+use Rattle.aes_steps.specs.{KeyExpansion.{subWord, rotWord, addWord, powerOfX, roundConstant, turned, nextWord, grown, roundKeys}, Rounds.round}
+use Rattle.aes.specs.Cipher.{roundKey, rounds, cipher, throughCipher}
+use Rattle.xts.specs.Units.{tweakBytes, raised, alphaByte, timesAlpha, underTweak, blocksUnder, firstTweak, convertedBy, dataKeys, tweakKeys, converted}
 use Rattle.fields.specs.Bytes.{sameBytes, allZero}
 use Rattle.crc32.specs.Crc32.{crc32, crcFrom, bitSteps, bitStep}
 use Rattle.layout.specs.Rules.{multiple, hostSizeRule, sectorSizeRule, placeRule, sectorsRule, dataAreaRule, sound}
@@ -22,7 +29,7 @@ use Rattle.map_output.specs.MapOutput.{textLine, numberLine, eitherLine, magicL
 use Rattle.guarantees.specs.MapProgram.{letters}
 use Rattle.worked_cases.specs.WorkedCases.{outerTold, hiddenTold, fieldBytes, headerWith, toldOf, opens, opensM, volume, volumeM, volumeN, largeM}
 use Rattle.worked_cases.specs.WorkedCases.{mappedTold, tweakTold, sectorTold, onView, writingFrom, writing, reading, leaving}
-use Rattle.worked_cases.specs.WorkedCases.{Rows, openingCases, sectorSizeCases, mapCases, accessCases, cases, AsWorked}
+use Rattle.worked_cases.specs.WorkedCases.{Rows, openingCases, sectorSizeCases, mapCases, accessCases, publishedKey, cipherCases, cases, AsWorked}
 
 -- each row is as the rules say
 abbrev Right : Rows → Type 0
@@ -61,11 +68,19 @@ unfolding accessCases volume volumeM volumeN largeM onView writingFrom writing r
     answerRefusal answerSector sectorTold has larger overlap beyond
 access-rows = refl
 
+cipher-rows : Right cipherCases
+unfolding cipherCases publishedKey bigEndianBytes littleEndianBytes converted convertedBy dataKeys tweakKeys firstTweak tweakBytes
+    blocksUnder underTweak timesAlpha alphaByte raised throughCipher cipher rounds roundKey round
+    roundKeys grown nextWord turned roundConstant powerOfX addWord rotWord subWord inFours bytesOf blockByte block word eachByte eachColumn
+    addRoundKey mixColumns mixedWord mixed shiftRows subBytes byteAt substituted affine byteOf bit inverse squares product productOf whereSet timesX entries
+cipher-rows = refl
+
 table : Right cases
 unfolding cases
 table =
-    join openingCases (sectorSizeCases ++ (mapCases ++ accessCases)) opening-rows
-    (join sectorSizeCases (mapCases ++ accessCases) sector-size-rows (join mapCases accessCases map-rows access-rows))
+    join openingCases (sectorSizeCases ++ (mapCases ++ (accessCases ++ cipherCases))) opening-rows
+    (join sectorSizeCases (mapCases ++ (accessCases ++ cipherCases)) sector-size-rows
+    (join mapCases (accessCases ++ cipherCases) map-rows (join accessCases cipherCases access-rows cipher-rows)))
 
 output : layoutLines volumeM
     ≡ letters "mark TRUE\nversion 5\nneeds 1792\nkind standard\nhost 1048576\nstart 131072\nsize 786432\nsectors 1536\nfirst 256\nlast 1791\n"

@@ -1,9 +1,11 @@
 -- The worked cases (RULES.md, Worked cases): the starred ones in one table, and the map program's output, computed from the definitions that
 -- the contracts cite. Assumes nothing.
-use Prim.Native.Nat.{ℕ, _-_, _*_, _/_, _^_}
+use Prim.Native.Nat.{ℕ, _-_, _*_, _/_, _%_, _^_}
 use mathlib.Core.{Path._≡_, List.{List, [], _∷_, _++_, map}}
-use lib.ListN.{replicate}
+use lib.ListN.{take, replicate}
+use Rattle.bits.specs.Bits.{entries}
 use Rattle.numbers.specs.Numbers.{bigEndianBytes}
+use Rattle.xts.specs.Units.{enciphered}
 use Rattle.crc32.specs.Crc32.{crc32}
 use Rattle.answers.specs.Answers.{answerRefusal, Naming, unnamed, named, answerSector}
 use Rattle.answers.specs.declared.{Answer.Answer, Numbered.Numbered}
@@ -194,9 +196,22 @@ accessCases =
     ∷ (onView (plainView largeM) (writing 1 0), 20 ∷ [])
     ∷ []
 
+-- the key of IEEE 1619's vectors for AES-256: its half for the data, and its half for the tweaks
+unfoldable pub publishedKey : List ℕ
+publishedKey =
+    bigEndianBytes 32 0x2718281828459045235360287471352662497757247093699959574966967627
+    ++ bigEndianBytes 32 0x3141592653589793238462643383279502884197169399375105820974944592
+
+-- enciphering: of its vector 10, the first two blocks, between which the tweak is reduced
+unfoldable pub cipherCases : Rows
+cipherCases = (
+  take 32 (enciphered publishedKey 0xFF (entries (λ k. k % 256) 512 0)),
+  bigEndianBytes 32 0x1C3B3A102F770386E4836C99E370CF9BEA00803F5E482357A4AE12D414A3E63B,
+) ∷ []
+
 -- the table
 unfoldable pub cases : Rows
-cases = openingCases ++ (sectorSizeCases ++ (mapCases ++ accessCases))
+cases = openingCases ++ (sectorSizeCases ++ (mapCases ++ (accessCases ++ cipherCases)))
 
 -- the claim: every case, and the map program's whole output for M, is as the rules say
 pub record AsWorked : Type 0 where
