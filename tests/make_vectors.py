@@ -11,6 +11,7 @@ is held to what is computed here before any file is written.
 import sys
 
 from vectors.checks import checks
+from vectors.ciphers import ciphers
 from vectors.headers import ROOT
 from vectors.maps import maps
 from vectors.openings import openings
@@ -29,7 +30,7 @@ def differing(files):
 
 
 def main():
-    files = {**program_files([*checks(), *openings(), *writings(), *sectors(), *views()]), **maps()}
+    files = {**program_files([*checks(), *openings(), *writings(), *sectors(), *ciphers(), *views()]), **maps()}
     if sys.argv[1:] == ['--check']:
         wrong = differing(files)
         for path in wrong:

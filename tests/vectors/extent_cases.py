@@ -1,5 +1,5 @@
 """The calls that only tell where the bytes are: for the reads and writes of other groups, and on the largest host."""
-from .calls import access, both_extents, make_up, plain, YES
+from .calls import access, as_other, both_extents, make_up, plain, YES
 from .records import READ, READ_EXTENT, WRITE, WRITE_EXTENT
 from .reference_model import NO_VIEW, view
 from .sectors import HIDDEN_AT_ITS_END, LARGEST_LAYOUT, LARGEST_OF_4096, MOST
@@ -41,19 +41,9 @@ LARGE_HOSTS = [
 ]
 
 
-def as_extent(call):
-    """A read or write as the extent call of the same numbers; any other call as it is."""
-    if call['request'] not in EXTENT_OF:
-        return call
-    buffer = None if call['buffer'] == 512 * call['count'] else call['buffer']
-    sector = [] if call['sector'] is None else [call['sector']]
-    extent = (call['first'], call['count'], *sector)
-    return access(EXTENT_OF[call['request']], call['slot'], extent, call['image'], buffer)
-
-
 def extent_groups(groups):
     """The groups with extent calls for reads and writes, on views that begin as the program's do."""
     yield 'before extents', [make_up(0, NO_VIEW), make_up(1, NO_VIEW)]
     for title, calls in groups:
-        yield f'extents, {title}', [(answer, as_extent(call)) for answer, call in calls]
+        yield f'extents, {title}', [(answer, as_other(call, EXTENT_OF)) for answer, call in calls]
     yield from LARGE_HOSTS

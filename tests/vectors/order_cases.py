@@ -42,13 +42,13 @@ BEFORE_AN_ORDER = [
 ]
 
 
-def merged(order):
-    calls = {'O': iter(OUTER_CALLS), 'H': iter(HIDDEN_CALLS)}
-    assert order.count('O') == len(OUTER_CALLS) and order.count('H') == len(HIDDEN_CALLS)
+def merged(order, outer, hidden):
+    calls = {'O': iter(outer), 'H': iter(hidden)}
+    assert order.count('O') == len(outer) and order.count('H') == len(hidden)
     return [next(calls[list_name]) for list_name in order]
 
 
 def order_groups():
     for order in ORDERS:
         yield f'before order {order}', BEFORE_AN_ORDER
-        yield f'order {order}', merged(order)
+        yield f'order {order}', merged(order, OUTER_CALLS, HIDDEN_CALLS)

@@ -8,7 +8,11 @@ from typing import NamedTuple
 
 # What a record asks for, its body's first number.
 (CHECKSUM, LOCATION, OPENING, WRITE_HEADER, MAP, PLAIN, PROTECTED, MADE_UP, READ, WRITE, READ_EXTENT,
- WRITE_EXTENT) = range(12)
+ WRITE_EXTENT, READ_PLAINTEXT, WRITE_PLAINTEXT, KEY, BLOCK, PUBLISHED_UNIT, UNIT) = range(18)
+
+# Those of plaintext, and all that move bytes.
+PLAINTEXT = (READ_PLAINTEXT, WRITE_PLAINTEXT)
+MOVES = (READ, WRITE, *PLAINTEXT)
 
 
 class Case(NamedTuple):

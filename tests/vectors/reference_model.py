@@ -2,6 +2,7 @@
 import zlib
 from collections import namedtuple
 
+from . import xts
 from .rules import host_sector, is_sound, sector_count
 from .openings import HOST
 from .sectors import layout
@@ -93,7 +94,10 @@ class ReferenceModel:
         self.views = [NO_VIEW] * 2
 
     def checksum(self):
-        return zlib.crc32(b''.join(self.sectors) + self.last_byte)
+        total = 0
+        for part in (*self.sectors, self.last_byte):
+            total = zlib.crc32(part, total)
+        return total
 
     def judge(self, slot, is_write, image_size, first, count, buffer_size):
         """The answer and the sector. 18 closes the lock."""
@@ -117,16 +121,18 @@ class ReferenceModel:
             return Told(18, protected_sectors(v, first, count)[0])
         return Told('accepted')
 
-    def call(self, slot, is_write, image_size, first, count, buffer):
-        """A read or a write, with the buffer as it is left."""
+    def call(self, slot, is_write, image_size, first, count, buffer, key=b''):
+        """A read or a write, with the buffer as it is left. Where there is a key, it is of plaintext."""
         told = self.judge(slot, is_write, image_size, first, count, len(buffer))
         if told.answer != 'accepted':
             return told._replace(left=buffer)
         hosts = [host_sector(self.views[slot]['layout'], user) for user in range(first, first + count)]
         if not is_write:
-            return told._replace(left=b''.join(self.sectors[host] for host in hosts))
+            stored = b''.join(self.sectors[host] for host in hosts)
+            return told._replace(left=xts.decipher(key, hosts, stored) if key else stored)
+        stored = xts.encipher(key, hosts, buffer) if key else buffer
         for piece, host in enumerate(hosts):
-            self.sectors[host] = buffer[512 * piece:512 * piece + 512]
+            self.sectors[host] = stored[512 * piece:512 * piece + 512]
         return told._replace(left=buffer)
 
     def extent(self, slot, is_write, image_size, first, count, buffer_size):

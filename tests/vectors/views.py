@@ -4,11 +4,12 @@ import zlib
 from .alignment_cases import ALIGNMENT_GROUPS
 from .calls import YES
 from .extent_cases import extent_groups
-from .generated_cases import generated_groups
+from .generated_cases import generated_groups, generated_mixtures
 from .making_cases import making_groups
 from .order_cases import order_groups, ORDERS
-from .records import (Case, MADE_UP, outcome, PLAIN, PROTECTED, READ, READ_EXTENT, same, spaced, WRITE,
-                      WRITE_EXTENT)
+from .plaintext_cases import MIXTURES, plaintext_groups
+from .records import (Case, MADE_UP, MOVES, outcome, PLAIN, PROTECTED, READ, READ_EXTENT, READ_PLAINTEXT, same, spaced,
+                      WRITE, WRITE_EXTENT, WRITE_PLAINTEXT)
 from .reference_model import filled, plain_view, protected_view, ReferenceModel
 from .sector_cases import SECTOR_GROUPS
 from .view_cases import ACCESS_GROUPS
@@ -19,12 +20,14 @@ SECTOR_BEFORE, OFFSET_BEFORE = 10**18, 2 * 10**18
 # The answers that generated calls must reach; those whose answer is written by hand reach 13 too.
 READ_ANSWERS = {YES, 11, 14, 15, 20, 16}
 WRITE_ANSWERS = READ_ANSWERS | {17, 18}
-ANSWERS = {READ: READ_ANSWERS, READ_EXTENT: READ_ANSWERS, WRITE: WRITE_ANSWERS, WRITE_EXTENT: WRITE_ANSWERS}
+ANSWERS = {READ: READ_ANSWERS, READ_EXTENT: READ_ANSWERS, READ_PLAINTEXT: READ_ANSWERS,
+           WRITE: WRITE_ANSWERS, WRITE_EXTENT: WRITE_ANSWERS, WRITE_PLAINTEXT: WRITE_ANSWERS}
 
 
 def all_groups():
     accesses = [*ACCESS_GROUPS, *SECTOR_GROUPS, *ALIGNMENT_GROUPS]
-    return [*accesses, *making_groups(), *order_groups(), *extent_groups(accesses), *generated_groups()]
+    return [*accesses, *making_groups(), *order_groups(), *extent_groups(accesses), *generated_groups(),
+            *plaintext_groups(accesses), *generated_mixtures()]
 
 
 def calls():
@@ -49,7 +52,7 @@ def numbers(call):
     if call['request'] == MADE_UP:
         return view_numbers(call['view'])
     asked = [call[field] for field in ('image', 'first', 'count', 'buffer')]
-    before = call['seed'] if call['request'] in (READ, WRITE) else OFFSET_BEFORE + call['seed']
+    before = call['seed'] if call['request'] in MOVES else OFFSET_BEFORE + call['seed']
     return [*asked, before, SECTOR_BEFORE + call['seed']]
 
 
@@ -62,10 +65,11 @@ def run_call(model, call):
         return model.make(slot, protected_view(*call['layouts']))
     if request == MADE_UP:
         return model.make(slot, call['view'])
-    is_write, extent = request in (WRITE, WRITE_EXTENT), (call['image'], call['first'], call['count'])
+    is_write = request in (WRITE, WRITE_EXTENT, WRITE_PLAINTEXT)
+    extent = (call['image'], call['first'], call['count'])
     if request in (READ_EXTENT, WRITE_EXTENT):
         return model.extent(slot, is_write, *extent, call['buffer'])
-    return model.call(slot, is_write, *extent, filled(call['buffer'], call['seed']))
+    return model.call(slot, is_write, *extent, filled(call['buffer'], call['seed']), call['key'])
 
 
 def cell(told, before):
@@ -76,7 +80,7 @@ def cell(told, before):
 def answers(call, told, model):
     printed = [('', outcome(told.answer))]
     sector = ('sector ', cell(told.sector, SECTOR_BEFORE + call['seed']))
-    if call['request'] in (READ, WRITE):
+    if call['request'] in MOVES:
         sums = f'{zlib.crc32(told.left):08x}', f'{model.checksum():08x}'
         printed += [sector, ('buffer ', sums[0]), ('image ', sums[1])]
     if call['request'] in (READ_EXTENT, WRITE_EXTENT):
@@ -95,10 +99,11 @@ def views():
         group = groups.setdefault(title, {0: [], 1: []})
         group[call['slot']].append(told)
         group['after'] = (list(model.sectors), list(model.views))
-        yield Case(call['request'], name, answers(call, told, model), numbers(call), slot=call['slot'])
+        yield Case(call['request'], name, answers(call, told, model), numbers(call), call.get('key', b''), call['slot'])
     for source, others in (('generated', set()), ('by hand', {13})):
         missing = {(request, answer) for request in ANSWERS for answer in ANSWERS[request] | others} - given[source]
         assert not missing, f'{source}, these requests never have these answers: {missing}'
-    for title in ('before order', 'order'):
+    orders = ['order', *(f'{name}, order' for name in MIXTURES)]
+    for title in [*orders, *(f'before {order}' for order in orders)]:
         first, *others = [groups[f'{title} {order}'] for order in ORDERS]
         assert others == [first] * len(others), f'{title}: the three differ in what they tell, the image or a view'

@@ -1,13 +1,17 @@
-// Records that ask for a read or, by any other number, a write: the length of the image, the first
-// sector and the count, the length of the buffer, what it is filled from, and what the sector is before
-// the call. What the call leaves is printed: the sector, checksums of the buffer and of the whole image,
-// and the view.
+// Records that ask for a read or a write of raw bytes, for a read of plaintext or, by any other number, for a
+// write of it: the length of the image, the first sector and the count, the length of the buffer, what it is
+// filled from, and what the sector is before the call; for plaintext, its two keys. What the call leaves is
+// printed: the sector, checksums of the buffer and of the whole image, and the view.
 use crate::image;
 use crate::input;
 use crate::print;
 use crate::views;
 
 const READ: u64 = 8;
+
+const WRITE: u64 = 9;
+
+const READ_PLAINTEXT: u64 = 12;
 
 pub const IMAGE_SIZE: usize = 2;
 
@@ -20,6 +24,8 @@ pub const BUFFER_SIZE: usize = 5;
 const SEED: usize = 6;
 
 pub const SECTOR: usize = 7;
+
+const KEYS: usize = 8;
 
 // 130 sectors: more than a call may move.
 const BUFFER_SPACE: usize = 66_560;
@@ -53,8 +59,27 @@ fn call(
 ) -> u64 {
     let first = input::number(body, FIRST);
     let count = input::number(body, COUNT);
-    if input::number(body, 0) == READ {
-        return ondristela::ondristela_read(view, image, first, count, buffer, sector);
+    let keys = input::key_pair(body, KEYS);
+    match input::number(body, 0) {
+        READ => ondristela::ondristela_read(view, image, first, count, buffer, sector),
+        WRITE => ondristela::ondristela_write(view, image, first, count, buffer, sector),
+        READ_PLAINTEXT => ondristela::ondristela_read_plaintext(
+            view,
+            &keys,
+            image,
+            first,
+            count,
+            buffer,
+            sector,
+        ),
+        _ => ondristela::ondristela_write_plaintext(
+            view,
+            &keys,
+            image,
+            first,
+            count,
+            buffer,
+            sector,
+        ),
     }
-    ondristela::ondristela_write(view, image, first, count, buffer, sector)
 }

@@ -3,7 +3,7 @@
 // first, and after them any bytes. Every number is eight bytes, big-endian.
 ghost use Rattle.io.specs.Counts.{Counts};
 
-const NUMBER_SIZE: usize = 8;
+pub const NUMBER_SIZE: usize = 8;
 
 const TEXT_SPACE: usize = 255;
 
@@ -73,4 +73,28 @@ pub fn number_list(numbers: &[u8], list: &mut [u64]) {
         list[place] = number(numbers, place);
         place += 1;
     }
+}
+
+// As many bytes as the list holds.
+pub fn byte_list(bytes: &[u8], list: &mut [u8]) {
+    let mut place = 0;
+    while place < list.len() {
+        list[place] = byte(bytes, place);
+        place += 1;
+    }
+}
+
+// A byte by its place, 0 where there are fewer.
+fn byte(bytes: &[u8], place: usize) -> u8 {
+    if bytes.len() <= place {
+        return 0;
+    }
+    bytes[place]
+}
+
+// The 64 bytes after so many numbers: the two keys of a unit or of plaintext.
+pub fn key_pair(body: &[u8], count: usize) -> [u8; 64] {
+    let mut keys = [0u8; 64];
+    byte_list(after(body, count), &mut keys);
+    keys
 }

@@ -2,6 +2,7 @@
 // that they ask for, with the texts that they have for them. Assumes nothing.
 mod access;
 mod checks;
+mod ciphers;
 mod extents;
 mod headers;
 mod image;
@@ -32,10 +33,18 @@ const READ_EXTENT: u64 = 10;
 
 const WRITE_EXTENT: u64 = 11;
 
+const KEY: u64 = 14;
+
+const BLOCK: u64 = 15;
+
+const PUBLISHED_UNIT: u64 = 16;
+
+const UNIT: u64 = 17;
+
 // The slot of the view that a record is for, the second number of its body.
 const SLOT: usize = 1;
 
-const MAX_RECORDS: u32 = 4_096;
+const MAX_RECORDS: u32 = 8_192;
 
 // The records run on one image and on two views of it, which begin as all zeros.
 fn main() {
@@ -93,6 +102,10 @@ fn run(image: &mut [u8; image::SPACE], view: &mut [u64; views::SIZE], body: &[u8
         MADE_UP => views::make_up(view, body),
         READ_EXTENT => extents::run(view, body),
         WRITE_EXTENT => extents::run(view, body),
+        KEY => ciphers::run_key(body),
+        BLOCK => ciphers::run_block(body),
+        PUBLISHED_UNIT => ciphers::run_unit(body),
+        UNIT => ciphers::run_unit(body),
         _ => access::run(image, view, body),
     }
 }

@@ -36,7 +36,5 @@ fn print_tweak(tweak: Tweak) {
     let number = tweak.number;
     let block = tweak.block;
     print::numbered(number);
-    input::copy_text();
-    io::print_hex(1, input::number(&block, 0), 16);
-    io::print_hex(1, input::number(&block, 1), 16);
+    print::hex(&block);
 }

@@ -23,6 +23,16 @@ pub fn numbers(list: &[u64]) {
     }
 }
 
+// Bytes in their order, eight at a time.
+pub fn hex(bytes: &[u8]) {
+    input::copy_text();
+    let mut place = 0;
+    while place < bytes.len() / input::NUMBER_SIZE {
+        io::print_hex(1, input::number(bytes, place), 16);
+        place += 1;
+    }
+}
+
 pub fn checksum(bytes: &[u8]) {
     input::copy_text();
     io::print_hex(1, ondristela::ondristela_crc32(bytes) as u64, 8);

@@ -1,4 +1,4 @@
--- `vectors::run_records` meets its contract: it ends after at most 4,096 records. Assumes nothing.
+-- `vectors::run_records` meets its contract: it ends after at most 8,192 records. Assumes nothing.
 use Prim.Native.Nat.{_-_}
 use borrow.Author.Needs.{needs}
 use Rattle.vectors.proofs.run_records.Statement.{statement}
@@ -8,7 +8,7 @@ abbrev Inv-loop : tie.InvT-loop
 Inv-loop image₀ left₀ right₀ records₀ image left right records = Unit
 
 abbrev μ-loop : tie.MeasureT-loop
-μ-loop image₀ left₀ right₀ records₀ image left right records = 4096 - records
+μ-loop image₀ left₀ right₀ records₀ image left right records = 8192 - records
 
 fill-requires : tie.Need-fill-requires Inv-loop μ-loop
 fill-requires c κs = search needs
