@@ -4,28 +4,12 @@
 mod cases;
 mod reference;
 
-use cases::accesses::{access, Access, CASES, MAX_BUFFER, SEED};
+use cases::accesses::{access, Access, CASES, SEED};
 use cases::coverage::Coverage;
-use cases::views;
+use cases::memory::{refresh_buffers, Memory};
 use ondristela::raw;
 use reference::access::{self, Answer, Extent, View};
 use reference::random::Random;
-
-/// The library's bytes and the reference's. Each call gets parts of them, and after each they are equal.
-struct Memory {
-    image: Vec<u8>,
-    buffer: Vec<u8>,
-}
-
-impl Memory {
-    fn new() -> Memory {
-        let mut memory = Memory { image: vec![0; views::MAX_HOST_SIZE + 512], buffer: vec![0; MAX_BUFFER] };
-        let mut random = Random::of_case(SEED, CASES);
-        random.fill(&mut memory.image);
-        random.fill(&mut memory.buffer);
-        memory
-    }
-}
 
 fn read_by_reference(access: &Access, memory: &mut Memory) -> Answer {
     let Access { view, image_size, extent, buffer_size } = access;
@@ -134,16 +118,6 @@ fn check_cases(name: &'static str, check: Check) -> Coverage {
         assert!(same, "{name} left other bytes, seed {SEED} case {case}: {access:?}");
     }
     coverage
-}
-
-/// New bytes at the start of each sector of the buffers, so that every call carries its own.
-fn refresh_buffers(given: &mut Memory, expected: &mut Memory, random: &mut Random) {
-    let stamp = random.number();
-    for start in (0..MAX_BUFFER).step_by(512) {
-        let bytes = (stamp ^ start as u64).to_le_bytes();
-        given.buffer[start..start + 8].copy_from_slice(&bytes);
-        expected.buffer[start..start + 8].copy_from_slice(&bytes);
-    }
 }
 
 #[test]

@@ -1,5 +1,5 @@
 //! The sector in the way: every extent on a small volume, with every protected range that it can have, through the
-//! four calls that tell it. The library and the rules in `reference` must both tell the larger of two sectors: the
+//! six calls that tell it. The library and the rules in `reference` must both tell the larger of two sectors: the
 //! extent's first, and the first that is past the volume's end or protected.
 
 mod cases;
@@ -68,8 +68,8 @@ fn check(view: &View, image: &mut [u8], extent: Extent) {
     for Answer { number, sector } in [read, write] {
         assert_eq!(sector, expected_sector(view, extent, number), "{number}: {view:?} {extent:?}");
     }
-    assert_eq!(reads(view, image, extent), [read.stored_over(UNTOLD); 2], "read {view:?} {extent:?}");
-    assert_eq!(writes(view, image, extent), [write.stored_over(UNTOLD); 2], "write {view:?} {extent:?}");
+    assert_eq!(reads(view, image, extent), [read.stored_over(UNTOLD); 3], "read {view:?} {extent:?}");
+    assert_eq!(writes(view, image, extent), [write.stored_over(UNTOLD); 3], "write {view:?} {extent:?}");
 }
 
 #[test]

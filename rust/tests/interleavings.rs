@@ -1,5 +1,5 @@
-//! Interleavings of two lists of calls on one image, compared with the reference model and with each other
-//! (docs/RULES.md, Interleavings).
+//! Interleavings of two lists of calls on one image, raw ones and ones on plaintext, compared with the reference model
+//! and with each other (docs/RULES.md, Interleavings).
 
 mod cases;
 mod reference;
@@ -10,9 +10,9 @@ use cases::coverage::Coverage;
 use cases::lists::Lists;
 use ondristela::raw::{self, ViewNumbers};
 use reference::access::{covered, View};
-use reference::layout::SECTOR_SIZES;
 use reference::model::{Call, Outcome, ReferenceModel, INNER, OUTER};
 use reference::random::Random;
+use reference::xts::Key;
 
 const SEED: u64 = 31;
 /// So many pairs of lists for each size of the disk's sectors.
@@ -39,13 +39,14 @@ fn library_views(lists: &Lists) -> [ViewNumbers; 2] {
     views
 }
 
-fn library_step(view: &mut ViewNumbers, image: &mut [u8], call: &Call) -> Outcome {
+fn library_step(view: &mut ViewNumbers, key: &Key, image: &mut [u8], call: &Call) -> Outcome {
     let (mut buffer, mut sector) = (call.buffer.clone(), [call.sector]);
     let (first, count) = (call.extent.first, call.extent.count);
-    let answer = if call.writes {
-        raw::write(view, image, first, count, &buffer, &mut sector)
-    } else {
-        raw::read(view, image, first, count, &mut buffer, &mut sector)
+    let answer = match (call.writes, call.on_plaintext) {
+        (false, false) => raw::read(view, image, first, count, &mut buffer, &mut sector),
+        (true, false) => raw::write(view, image, first, count, &buffer, &mut sector),
+        (false, true) => raw::read_plaintext(view, key, image, first, count, &mut buffer, &mut sector),
+        (true, true) => raw::write_plaintext(view, key, image, first, count, &buffer, &mut sector),
     };
     Outcome { answer, buffer, sector: sector[0] }
 }
@@ -66,14 +67,15 @@ impl End {
         self.start(lists);
         self.views = library_views(lists);
         for (side, call) in in_order(lists, order) {
-            let outcome = library_step(&mut self.views[side], &mut self.image, call);
+            let outcome = library_step(&mut self.views[side], &lists.keys[side], &mut self.image, call);
             self.outcomes[side].push(outcome);
         }
     }
 
     fn fill_by_model(&mut self, lists: &Lists, order: &[usize]) {
         self.start(lists);
-        let mut model = ReferenceModel { image: mem::take(&mut self.image), views: lists.views() };
+        let image = mem::take(&mut self.image);
+        let mut model = ReferenceModel { image, views: lists.views(), keys: lists.keys };
         for (side, call) in in_order(lists, order) {
             self.outcomes[side].push(model.step(side, call));
         }
@@ -170,30 +172,63 @@ impl Ends {
     }
 }
 
-/// Checks the cases of one size of the disk's sectors, and counts the answers of each list.
-fn check_cases(sector_size: u64) -> [Coverage; 2] {
-    let mut coverages = [Coverage::new("outer calls"), Coverage::new("hidden calls")];
+/// The answers of each list, those of raw calls and those on plaintext.
+type Coverages = [[Coverage; 2]; 2];
+
+/// Checks the cases of one size of the disk's sectors, and counts the answers.
+fn check_cases(sector_size: u64) -> Coverages {
+    let mut coverages = [
+        ["outer raw calls", "outer calls on plaintext"].map(Coverage::new),
+        ["hidden raw calls", "hidden calls on plaintext"].map(Coverage::new),
+    ];
     let (mut ends, mut differing) = (Ends::default(), 0);
     for case in sector_size * CASES..(sector_size + 1) * CASES {
         let mut random = Random::of_case(SEED, case);
         let lists = Lists::new(sector_size, &mut random);
         differing += ends.check(&lists, &orders(&lists, &mut random), case);
-        for side in [OUTER, INNER] {
-            ends.first.outcomes[side].iter().for_each(|outcome| coverages[side].count(outcome.answer));
-        }
+        count(&lists, &ends.first, &mut coverages);
     }
     println!("sectors of {sector_size}: outer reads gave other bytes of protected sectors {differing} times");
     assert!(differing >= 150);
     coverages
 }
 
-/// Where the disk's sectors are ours no call is refused 20, and else some are.
-#[test]
-fn interleavings() {
-    for sector_size in SECTOR_SIZES {
-        let unaligned: &[u64] = if sector_size == 512 { &[] } else { &[20] };
-        let [outer, hidden] = check_cases(sector_size);
-        outer.assert_exactly(&[&[0, 13, 14, 15, 16, 17, 18], unaligned].concat(), 15);
-        hidden.assert_exactly(&[&[0, 13, 14, 15, 16, 17], unaligned].concat(), 15);
+fn count(lists: &Lists, end: &End, coverages: &mut Coverages) {
+    for side in [OUTER, INNER] {
+        for (call, outcome) in lists.calls[side].iter().zip(&end.outcomes[side]) {
+            coverages[side][usize::from(call.on_plaintext)].count(outcome.answer);
+        }
     }
+}
+
+/// Checks one size of the disk's sectors; `unaligned` is the answer 20, where an extent may be no whole number of them.
+fn check_size(sector_size: u64, unaligned: &[u64]) {
+    let [outer, hidden] = check_cases(sector_size);
+    for form in outer {
+        form.assert_exactly(&[&[0, 13, 14, 15, 16, 17, 18], unaligned].concat(), 8);
+    }
+    for form in hidden {
+        form.assert_exactly(&[&[0, 13, 14, 15, 16, 17], unaligned].concat(), 8);
+    }
+}
+
+/// Where the disk's sectors are ours no call is refused 20.
+#[test]
+fn sectors_of_512_bytes() {
+    check_size(512, &[]);
+}
+
+#[test]
+fn sectors_of_1024_bytes() {
+    check_size(1_024, &[20]);
+}
+
+#[test]
+fn sectors_of_2048_bytes() {
+    check_size(2_048, &[20]);
+}
+
+#[test]
+fn sectors_of_4096_bytes() {
+    check_size(4_096, &[20]);
 }

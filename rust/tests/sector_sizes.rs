@@ -191,8 +191,10 @@ fn assert_unsound_view(layout: &Layout) {
             raw::write_extent(&mut view, size, first, count, bytes, &mut offset, &mut sector),
             raw::read(&view, &[], first, count, &mut [], &mut sector),
             raw::write(&mut view, &mut [], first, count, &[], &mut sector),
+            raw::read_plaintext(&view, &[0x4B; 64], &[], first, count, &mut [], &mut sector),
+            raw::write_plaintext(&mut view, &[0x4B; 64], &mut [], first, count, &[], &mut sector),
         ];
-        assert_eq!(answers, [11; 4], "{layout:?}, {count} sectors from {first} on");
+        assert_eq!(answers, [11; 6], "{layout:?}, {count} sectors from {first} on");
         assert_eq!((offset, sector, view), ([UNTOUCHED], [UNTOUCHED], made_up), "{layout:?}");
     }
 }

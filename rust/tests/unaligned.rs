@@ -1,5 +1,5 @@
 //! Extents on disks whose own sectors are larger than 512 bytes: those that are not of whole ones are refused 20. Every
-//! extent on a small volume through the four calls, compared with the rules in `reference`; the order of the checks;
+//! extent on a small volume through the six calls, compared with the rules in `reference`; the order of the checks;
 //! and what 20 leaves.
 
 mod cases;
@@ -64,8 +64,8 @@ fn answers(view: &View, image: &mut [u8], extent: Extent) -> [u64; 2] {
     let (image_size, buffer_size) = (image.len(), (extent.count * SECTOR) as usize);
     let read = access::answer(view, image_size, extent, buffer_size);
     let write = access::write_answer(view, image_size, extent, buffer_size);
-    assert_eq!(reads(view, image, extent), [read.stored_over(UNTOLD); 2], "read {view:?} {extent:?}");
-    assert_eq!(writes(view, image, extent), [write.stored_over(UNTOLD); 2], "write {view:?} {extent:?}");
+    assert_eq!(reads(view, image, extent), [read.stored_over(UNTOLD); 3], "read {view:?} {extent:?}");
+    assert_eq!(writes(view, image, extent), [write.stored_over(UNTOLD); 3], "write {view:?} {extent:?}");
     [read.number, write.number]
 }
 
@@ -154,13 +154,15 @@ impl Passed {
         }
     }
 
-    /// The answers of all four calls.
-    fn call(&mut self, first: u64, count: u64) -> [u64; 4] {
+    /// The answers of all six calls.
+    fn call(&mut self, first: u64, count: u64) -> [u64; 6] {
         let Passed { view, image, buffer, offset, sector } = self;
         let [image_size, size] = [image.len(), buffer.len()].map(|size| size as u64);
         [
             raw::read(view, image, first, count, buffer, sector),
             raw::write(view, image, first, count, buffer, sector),
+            raw::read_plaintext(view, &[0x4B; 64], image, first, count, buffer, sector),
+            raw::write_plaintext(view, &[0x4B; 64], image, first, count, buffer, sector),
             raw::read_extent(view, image_size, first, count, size, offset, sector),
             raw::write_extent(view, image_size, first, count, size, offset, sector),
         ]
@@ -178,7 +180,7 @@ fn refused_calls_change_nothing() {
         {
             let passed = Passed::new(&view, count);
             let mut left = passed.clone();
-            assert_eq!(left.call(first, count), [20; 4], "{view:?}, {count} sectors from {first} on");
+            assert_eq!(left.call(first, count), [20; 6], "{view:?}, {count} sectors from {first} on");
             assert!(left == passed, "changed: {view:?}, {count} sectors from {first} on");
         }
     }
@@ -194,6 +196,6 @@ fn ranges_inside_a_disks_sector() {
         [(0, 8, (0, UNTOLD)), (8, 8, (18, 11)), (0, 24, (18, 11)), (16, 8, (0, UNTOLD))]
     {
         let written = writes(&view, &mut image, Extent { first, count });
-        assert_eq!(written, [expected; 2], "{count} sectors from {first} on");
+        assert_eq!(written, [expected; 3], "{count} sectors from {first} on");
     }
 }

@@ -22,6 +22,8 @@ int main(void)
     test_refused_sectors();
     test_unaligned();
     test_made_up();
+    test_ciphers();
+    test_plaintext();
     test_example();
     return report_checks();
 }

@@ -17,6 +17,8 @@ void test_access(void);
 void test_refused_sectors(void);
 void test_unaligned(void);
 void test_made_up(void);
+void test_ciphers(void);
+void test_plaintext(void);
 void test_example(void);
 
 #endif

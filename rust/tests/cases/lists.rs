@@ -3,15 +3,18 @@
 
 use std::fmt;
 
-use super::extents;
+use super::{extents, keys};
 use crate::reference::access::{self, Extent, View};
 use crate::reference::layout::{Layout, HEADERS_SIZE, HIDDEN, SECTOR, STANDARD};
 use crate::reference::model::{Call, INNER, OUTER};
 use crate::reference::random::Random;
+use crate::reference::xts::Key;
 
+/// Each view has one key for all calls of its list.
 pub struct Lists {
     pub layouts: [Layout; 2],
     pub locks: [u64; 2],
+    pub keys: [Key; 2],
     pub image: Vec<u8>,
     pub calls: [Vec<Call>; 2],
 }
@@ -25,7 +28,8 @@ impl Lists {
         let layouts = nested(sector_size, random);
         let locks = [random.pick(&[0, 0, 0, 1]), random.pick(&[0, 0, 0, 0, 1, 7])];
         let calls = [calls_on(&layouts, OUTER, random), calls_on(&layouts, INNER, random)];
-        Lists { layouts, locks, image: image(layouts[OUTER].host_size, random), calls }
+        let (image, keys) = (image(layouts[OUTER].host_size, random), keys::pair(random));
+        Lists { layouts, locks, keys, image, calls }
     }
 
     /// The outer and the hidden view as the reference makes them, with the locks that they start with.
@@ -58,11 +62,12 @@ impl Lists {
     }
 }
 
-/// The layouts, the locks, the image's size and each list's calls without their bytes.
+/// The layouts, the locks, whether the keys are the same, the image's size and each list's calls without their bytes.
 impl fmt::Debug for Lists {
     fn fmt(&self, out: &mut fmt::Formatter) -> fmt::Result {
-        let Lists { layouts, locks, image, calls } = self;
-        write!(out, "{layouts:?}, locks {locks:?}, image of {} bytes", image.len())?;
+        let Lists { layouts, locks, keys, image, calls } = self;
+        write!(out, "{layouts:?}, locks {locks:?}, same key {}", keys[OUTER] == keys[INNER])?;
+        write!(out, ", image of {} bytes", image.len())?;
         write!(out, ", outer calls: {}", summary(&calls[OUTER]))?;
         write!(out, ", hidden calls: {}", summary(&calls[INNER]))
     }
@@ -74,7 +79,8 @@ fn summary(calls: &[Call]) -> String {
 
 fn call_summary(call: &Call) -> String {
     let kind = if call.writes { "write" } else { "read" };
-    format!("{kind} {} count {} buffer {}", call.extent.first, call.extent.count, call.buffer.len())
+    let form = if call.on_plaintext { "plaintext" } else { "raw" };
+    format!("{form} {kind} {} count {} buffer {}", call.extent.first, call.extent.count, call.buffer.len())
 }
 
 /// An outer and a hidden layout that nest, on a host with few sectors of data area, which are the disk's.
@@ -125,7 +131,7 @@ fn call(layouts: &[Layout; 2], side: usize, avoids_hidden: bool, random: &mut Ra
     let extent = extents::scaled(extent, unit);
     let mut buffer = vec![0; extents::buffer_size(extent.count, 2 * 65_536, random)];
     random.fill(&mut buffer);
-    Call { writes, extent, buffer, sector: random.number() }
+    Call { writes, on_plaintext: random.chance(50), extent, buffer, sector: random.number() }
 }
 
 fn short(extent: Extent, random: &mut Random) -> Extent {

@@ -1,4 +1,4 @@
-//! Inputs made up for the tests, and counts of the answers that they reach.
+//! Inputs made up for the tests, values that were published, and counts of the answers that are reached.
 
 // Each test file uses a part of it.
 #![allow(dead_code)]
@@ -11,8 +11,11 @@ pub mod coverage;
 pub mod extents;
 pub mod header_writings;
 pub mod hosts;
+pub mod keys;
 pub mod layouts;
 pub mod lists;
+pub mod memory;
 pub mod new_headers;
 pub mod openings;
+pub mod published;
 pub mod views;

@@ -187,7 +187,8 @@ pub fn covered(layout: &Layout, extent: Extent) -> Vec<u64> {
     users(extent).map(|user| host_sector(layout, user).expect("a sector of the data area")).collect()
 }
 
-fn bytes_of(host: u64) -> Range<usize> {
+/// A host sector's bytes in the image.
+pub fn bytes_of(host: u64) -> Range<usize> {
     let start = (host * SECTOR) as usize;
     start..start + SECTOR as usize
 }

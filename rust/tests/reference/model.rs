@@ -1,17 +1,20 @@
-//! The reference model of two views on one image (docs/RULES.md, Interleavings).
+//! The reference model of two views on one image, with a key for each (docs/RULES.md, Interleavings).
 //! It keeps its own copy of the image and its own views, and sees nothing of the library's.
 
-use super::access::{read, write, Extent, View};
+use super::access::{self, Answer, Extent, View};
+use super::plaintext;
+use super::xts::Key;
 
 /// Whose calls: an index into the two views and the two lists.
 pub const OUTER: usize = 0;
 pub const INNER: usize = 1;
 
 /// One call of a list. A read has a buffer's bytes too: those that it is given. `sector` is what stands where the
-/// sector in the way is told.
+/// sector in the way is told. The buffer of a call on plaintext is in the clear, any other is as the host has it.
 #[derive(Clone, Debug)]
 pub struct Call {
     pub writes: bool,
+    pub on_plaintext: bool,
     pub extent: Extent,
     pub buffer: Vec<u8>,
     pub sector: u64,
@@ -28,18 +31,24 @@ pub struct Outcome {
 pub struct ReferenceModel {
     pub image: Vec<u8>,
     pub views: [View; 2],
+    pub keys: [Key; 2],
 }
 
 impl ReferenceModel {
     pub fn step(&mut self, side: usize, call: &Call) -> Outcome {
-        let view = &mut self.views[side];
         let mut buffer = call.buffer.clone();
-        let answer = if call.writes {
-            write(view, &mut self.image, call.extent, &buffer)
-        } else {
-            read(view, &self.image, call.extent, &mut buffer)
-        };
+        let answer = self.answer(side, call, &mut buffer);
         let (answer, sector) = answer.stored_over(call.sector);
         Outcome { answer, buffer, sector }
+    }
+
+    fn answer(&mut self, side: usize, call: &Call, buffer: &mut [u8]) -> Answer {
+        let (view, key, image) = (&mut self.views[side], &self.keys[side], &mut self.image);
+        match (call.writes, call.on_plaintext) {
+            (false, false) => access::read(view, image, call.extent, buffer),
+            (true, false) => access::write(view, image, call.extent, buffer),
+            (false, true) => plaintext::read(view, key, image, call.extent, buffer),
+            (true, true) => plaintext::write(view, key, image, call.extent, buffer),
+        }
     }
 }
