@@ -127,6 +127,20 @@ def distances(run):
     return table(head, map(row, DISTANCES))
 
 
+def ciphers(run):
+    rows = [[operation, *run.find(series='cipher', operation=operation).cells()] for operation in ('encipher', 'decipher')]
+    return table(['64 KiB', 'ours', 'Rust program', 'ratio', 'of minima'], rows)
+
+
+def plaintexts(run):
+    def row(operation, count):
+        found = run.find(series='plaintext', operation=operation, bytes=count * 512)
+        return [f'{operation}, {count}', time(found.ours), time(found.peer), f'{found.ours / found.peer:,.0f} times']
+
+    rows = [row(operation, count) for operation in ('read', 'write') for count in (1, 128)]
+    return table(['sectors', 'plaintext', 'raw', 'takes as long'], rows)
+
+
 class Target:
     """A ratio to reach, and the ratios of all runs, as they are printed."""
 
@@ -148,6 +162,8 @@ def targets(runs):
         found.append(Target(runs, f'CRC-32 of {size:,} bytes', 1, bytes=size, peer='byte table'))
     for case, words in OPENINGS.items():
         found.append(Target(runs, f'opening {words}', 1, series='opening', case=case))
+    for name in ('encipher', 'decipher'):
+        found.append(Target(runs, f'{name} 64 KiB', 0.5, series='cipher', operation=name))
     head = ['', 'target', 'this run', 'all runs', 'met in runs']
     return table(head, [target.cells() for target in found]) + '\n\n' + verdict(found, len(runs))
 
@@ -177,7 +193,7 @@ def main():
     given = parser.parse_args()
     page = replaced(PAGE.read_text(), 'note', given.note)
     page = replaced(page, 'targets', targets(given.runs))
-    for part in (machine, checksums, openings, copies, sizes, distances):
+    for part in (machine, checksums, openings, copies, sizes, distances, ciphers, plaintexts):
         page = replaced(page, part.__name__, part(given.runs[0]))
     PAGE.write_text(page)
 

@@ -47,7 +47,8 @@ pub fn measure_writes<P: Positions>(inputs: &mut Inputs<P>) -> [Timing; 2] {
     take_turns(inputs, [write_ours, write_peer])
 }
 
-fn read_ours<P: Positions>(inputs: &mut Inputs<P>, calls: u64) {
+/// Reads, so many times.
+pub fn read_ours<P: Positions>(inputs: &mut Inputs<P>, calls: u64) {
     let Inputs { view, image, buffer, count, positions } = inputs;
     let (image, buffer, mut sector) = (image.bytes(), buffer.bytes_mut(), [0]);
     for _ in 0..calls {
@@ -67,7 +68,8 @@ fn read_peer<P: Positions>(inputs: &mut Inputs<P>, calls: u64) {
     }
 }
 
-fn write_ours<P: Positions>(inputs: &mut Inputs<P>, calls: u64) {
+/// Writes, so many times.
+pub fn write_ours<P: Positions>(inputs: &mut Inputs<P>, calls: u64) {
     let Inputs { view, image, buffer, count, positions } = inputs;
     let (image, buffer, mut sector) = (image.bytes_mut(), buffer.bytes(), [0]);
     for _ in 0..calls {

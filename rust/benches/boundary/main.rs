@@ -9,6 +9,7 @@
 mod agreement;
 mod byte_table;
 mod checksum;
+mod ciphers;
 mod clock;
 mod copy;
 mod headers;
@@ -17,6 +18,8 @@ mod machine;
 mod memory;
 mod opening;
 mod peer;
+mod plain_aes;
+mod plaintext;
 mod positions;
 mod random;
 mod report;
@@ -44,6 +47,8 @@ fn main() -> Result<(), Box<dyn Error>> {
     opening::measure(&mut report);
     images::measure_sizes(&mut report);
     images::measure_distances(&mut report);
+    ciphers::measure(&mut report);
+    plaintext::measure(&mut report);
     report.save(&path)?;
     eprintln!("\nwritten to {}", path.display());
     Ok(())
