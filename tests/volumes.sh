@@ -22,7 +22,7 @@ finish() {
 }
 trap finish EXIT
 
-topics=(demo readme usage copies refusals in_the_way headers one_header prepare prepare_refusals prepare_files
+topics=(demo readme usage copies plaintext refusals in_the_way headers one_header prepare prepare_refusals prepare_files
     sector_sizes unaligned streams large interrupted devices terminal)
 source "$root/tests/volumes/checks.sh"
 for topic in "${@:-${topics[@]}}"; do

@@ -64,3 +64,13 @@ def salt_at(offset):
         return image.read(64)
 sys.stdout.buffer.write($1)"
 }
+
+# stored KEYS HOST_SECTOR: standard input as it has to stand on an image from a host sector on, by the tests' second
+# implementation. The key is the first 64 bytes of a file of keys.
+stored() {
+    PYTHONPATH=$root/tests python3 -B -c "
+import sys
+from vectors.xts import encipher
+key, units = open('$1', 'rb').read()[:64], sys.stdin.buffer.read()
+sys.stdout.buffer.write(encipher(key, range($2, $2 + len(units) // 512), units))"
+}

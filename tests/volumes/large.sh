@@ -19,6 +19,12 @@ if truncate -s 8T large.img 2>/dev/null; then
         "outer sector 8,589,934,336, which is the hidden volume's: host sector 8,589,934,592, from byte 4,398,046,511,104 on"
     expect 'a write to its first sector' 0 'wrote hidden' little write hidden 0 sector
     same 'a write to its first sector' sector <(at $((2**33)))
+    # Of plaintext the tweak numbers are above 2^32.
+    tail -c 256 hidden.header >hidden.keys
+    expect 'plaintext to its first sector' 0 'enciphered' little write hidden 0 sector --plaintext
+    same 'plaintext to its first sector' <(stored hidden.keys $((2**33)) <sector) <(at $((2**33)))
+    expect 'plaintext of its first sector' 0 'deciphered' little read hidden 0 1 plain --plaintext
+    same 'plaintext of its first sector' sector plain
     expect 'a write to its last sector' 0 'wrote hidden' little write hidden $((2**33 - 257)) sector
     same 'a write to its last sector' sector <(at $((2**34 - 257)))
     expect 'a write past it' 1 '(refusal 16)' little write hidden $((2**33 - 256)) sector

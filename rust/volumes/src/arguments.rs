@@ -34,18 +34,19 @@ pub enum Command {
     Sample { folder: PathBuf },
     Demo { folder: PathBuf },
     Show { files: Files },
-    Read { files: Files, volume: Volume, extent: Extent, target: PathBuf },
-    Write { files: Files, volume: Volume, first: u64, source: PathBuf },
+    Read { files: Files, volume: Volume, extent: Extent, target: PathBuf, plaintext: bool },
+    Write { files: Files, volume: Volume, first: u64, source: PathBuf, plaintext: bool },
     Prepare { plan: Plan },
 }
 
 const HEADERS: [&str; 3] = ["--outer", "--hidden", "--risk-wrong-disk"];
+const COPIES: [&str; 4] = ["--outer", "--hidden", "--risk-wrong-disk", "--plaintext"];
 
 // The commands, the words that each takes, and its options.
 const COMMANDS: [(&str, &str, &[&str]); 7] = [
     ("show", "IMAGE and headers", &HEADERS),
-    ("read", "IMAGE VOLUME FIRST COUNT FILE and headers", &HEADERS),
-    ("write", "IMAGE VOLUME FIRST FILE and headers", &HEADERS),
+    ("read", "IMAGE VOLUME FIRST COUNT FILE and headers", &COPIES),
+    ("write", "IMAGE VOLUME FIRST FILE and headers", &COPIES),
     ("prepare", "IMAGE VOLUME FILE, or VOLUME FILE and --host-size", &plan::OPTIONS),
     ("sample", "DIR", &[]),
     ("demo", "DIR", &[]),
@@ -78,6 +79,7 @@ fn named(name: &OsStr, options: &Options, words: &[&OsStr]) -> Result<Command, P
 
 // None, if there are more or fewer words than the command takes.
 fn command(name: &str, options: &Options, words: &[&OsStr]) -> Result<Option<Command>, Problem> {
+    let plaintext = options.has("--plaintext");
     Ok(Some(match (name, words) {
         ("help", []) => Command::Help,
         ("sample", [folder]) => Command::Sample { folder: folder.into() },
@@ -86,12 +88,12 @@ fn command(name: &str, options: &Options, words: &[&OsStr]) -> Result<Option<Com
         ("read", [image, volume, first, count, target]) => {
             let extent = Extent { first: number("FIRST", first)?, count: number("COUNT", count)? };
             let (files, volume) = files_with(image, options, volume)?;
-            Command::Read { files, volume, extent, target: target.into() }
+            Command::Read { files, volume, extent, target: target.into(), plaintext }
         }
         ("write", [image, volume, first, source]) => {
             let first = number("FIRST", first)?;
             let (files, volume) = files_with(image, options, volume)?;
-            Command::Write { files, volume, first, source: source.into() }
+            Command::Write { files, volume, first, source: source.into(), plaintext }
         }
         ("prepare", words) => return prepare(options, words),
         _ => return Ok(None),
@@ -160,6 +162,17 @@ mod tests {
     }
 
     #[test]
+    fn plaintext_is_asked_for() {
+        for (option, asked) in [("", false), ("--plaintext", true), ("--plaintext --plaintext", true)] {
+            let read = parsed(&format!("read disk outer 1 2 - --outer o {option}"));
+            let write = parsed(&format!("write {option} disk --hidden h hidden 1 -"));
+            let Ok(Command::Read { plaintext: read, .. }) = read else { panic!("read {option}") };
+            let Ok(Command::Write { plaintext: written, .. }) = write else { panic!("write {option}") };
+            assert_eq!([read, written], [asked; 2], "{option}");
+        }
+    }
+
+    #[test]
     fn what_is_wrong_is_named() {
         let lines = [
             ("", "no command"),
@@ -172,6 +185,9 @@ mod tests {
             ("show disk more --outer a", "show takes IMAGE and headers; beside options, 2 words"),
             ("sample folder --outer a", "sample takes no --outer"),
             ("show disk --outer a --magic TRUE", "show takes no --magic"),
+            ("show disk --outer a --plaintext", "show takes no --plaintext"),
+            ("prepare disk outer header --magic TRUE --plaintext", "prepare takes no --plaintext"),
+            ("read disk outer 0 1 copy --outer a --plaintext=yes", "is no option"),
             ("read disk inner 0 1 copy --outer a", "VOLUME is outer or hidden"),
             ("read disk hidden 0 1 copy --outer a", "the hidden volume needs its header"),
             ("read disk outer 0 -1 copy --outer a", "COUNT is a whole number"),

@@ -5,6 +5,7 @@ use std::path::Path;
 use ondristela::{crc32, Refusal, View};
 
 use crate::extent::Extent;
+use crate::form::Form;
 use crate::image::Image;
 use crate::judging::volume_name;
 use crate::noise::noise;
@@ -72,7 +73,7 @@ fn checksum(image: &Image) -> Result<u32, Problem> {
 }
 
 fn read(view: &View, image: &Image, extent: Extent, expected: &[u8]) -> Result<String, Problem> {
-    let same = match read_call(view, image, extent)? == expected {
+    let same = match read_call(view, image, extent, &Form::AsTheyStand)? == expected {
         true => "accepted, as written",
         false => "accepted, NOT as written",
     };

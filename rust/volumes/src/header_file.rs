@@ -2,7 +2,7 @@
 
 use std::path::Path;
 
-use ondristela::{open, Kind, Layout, Location, Refusal, SALT_SIZE};
+use ondristela::{key_bytes, open, Kind, Layout, Location, Refusal, KEY_SIZE, SALT_SIZE};
 
 use crate::image::Image;
 use crate::names::shown;
@@ -11,10 +11,12 @@ use crate::problem::Problem;
 use crate::salts;
 use crate::small_file;
 
-/// A volume's layout, and where the image has its header; nowhere, if the risk was taken.
+/// A volume's layout, where the image has its header (nowhere, if the risk was taken), and the key of its sectors, as
+/// long as they are enciphered with AES alone.
 pub struct Header {
     pub layout: Layout,
     pub location: Option<Location>,
+    pub key: [u8; KEY_SIZE],
 }
 
 impl Header {
@@ -24,15 +26,18 @@ impl Header {
     pub fn open(path: &Path, kind: Kind, image: &Image, risk_wrong_disk: bool) -> Result<Header, Problem> {
         let bytes = small_file::read(path)?;
         let code = if kind == Kind::Standard { Location::Standard.code() } else { Location::Hidden.code() };
-        let layout = open(&bytes, &[code], image.size()?)
-            .map_err(|refusal| refused(refusal, path, bytes.len(), image))?;
+        let (codes, host_size) = ([code], image.size()?);
+        let refused = |refusal| refused(refusal, path, bytes.len(), image);
+        let layout = open(&bytes, &codes, host_size).map_err(refused)?;
+        let mut key = [0; KEY_SIZE];
+        key.copy_from_slice(&key_bytes(&bytes, &codes, host_size).map_err(refused)?[..KEY_SIZE]);
         let location = salts::location_of(&bytes[..SALT_SIZE], kind, image)?;
         match location {
             None if !risk_wrong_disk => return Err(of_another_disk(path, image)),
             None => note(format_args!("warning: the image does not have the salt of {}", shown(path))),
             Some(_) => {}
         }
-        Ok(Header { layout, location })
+        Ok(Header { layout, location, key })
     }
 }
 

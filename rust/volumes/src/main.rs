@@ -1,8 +1,8 @@
 //! Shows where VeraCrypt and TrueCrypt volumes lie on a disk, copies sectors in and out of them, and makes headers.
 //!
 //! It works on image files and on block devices. Headers come deciphered, each in a file of its own, and must be
-//! the image's own, but for new ones; sectors are copied as they stand, enciphered. Where the library says a
-//! sector lies, and nowhere else, it is read and written. `volumes help` lists the commands.
+//! the image's own, but for new ones; sectors are copied as they stand, enciphered, or as plaintext. Where the library
+//! says a sector lies, and nowhere else, it is read and written. `volumes help` lists the commands.
 
 #![deny(unsafe_code)]
 
@@ -12,6 +12,7 @@ mod arguments;
 mod demo;
 mod extent;
 mod faults;
+mod form;
 mod formats;
 mod header_file;
 mod image;
@@ -78,8 +79,12 @@ fn run(command: Command) -> Result<String, Problem> {
         Command::Sample { folder } => sample_in(&folder),
         Command::Demo { folder } => demo::run(&folder),
         Command::Show { files } => show_files(&files),
-        Command::Read { files, volume, extent, target } => reading::read(&files, volume, extent, &target),
-        Command::Write { files, volume, first, source } => writing::write(&files, volume, first, &source),
+        Command::Read { files, volume, extent, target, plaintext } => {
+            reading::read(&files, volume, extent, &target, plaintext)
+        }
+        Command::Write { files, volume, first, source, plaintext } => {
+            writing::write(&files, volume, first, &source, plaintext)
+        }
         Command::Prepare { plan } => preparing::prepare(&plan),
     }
 }

@@ -7,13 +7,14 @@ use std::path::PathBuf;
 use crate::problem::Problem;
 
 /// Every option, and what its value is, if it takes one.
-const NAMES: [(&str, Option<&str>); 16] = [
+const NAMES: [(&str, Option<&str>); 17] = [
     ("-h", None),
     ("--help", None),
     ("--version", None),
     ("--outer", Some("a file, a deciphered header")),
     ("--hidden", Some("a file, a deciphered header")),
     ("--risk-wrong-disk", None),
+    ("--plaintext", None),
     ("--host-size", Some("a number of bytes")),
     ("--backup", None),
     ("--magic", Some("VERA or TRUE")),

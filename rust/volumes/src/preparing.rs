@@ -35,7 +35,7 @@ pub fn prepare(plan: &Plan) -> Result<String, Problem> {
 }
 
 const NEXT: &str = "next: encipher the header, but for its salt, before it goes to its place; this program \
-                    does not encipher, and here the keys are in the clear";
+                    enciphers no header, and here the keys are in the clear";
 
 // A file is its owner's alone from its first byte on, since it has the keys.
 fn put(bytes: &[u8], path: &Path) -> Result<(), Problem> {

@@ -5,9 +5,9 @@ pub const VERSION: &str = concat!("volumes ", env!("CARGO_PKG_VERSION"), "\n");
 pub const USAGE: &str = "\
 volumes show IMAGE HEADERS
     shows where the volumes lie
-volumes read IMAGE HEADERS VOLUME FIRST COUNT FILE
+volumes read IMAGE HEADERS VOLUME FIRST COUNT FILE [--plaintext]
     copies COUNT sectors, from sector FIRST on, into a new FILE
-volumes write IMAGE HEADERS VOLUME FIRST FILE
+volumes write IMAGE HEADERS VOLUME FIRST FILE [--plaintext]
     copies FILE, whole sectors of 512 bytes, from sector FIRST on
 volumes prepare IMAGE VOLUME FILE --magic MAGIC
     makes a new header for a volume on IMAGE, in a new FILE, deciphered;
@@ -39,7 +39,15 @@ around it.
 FILE - is standard output or standard input. Standard input is copied to a
 nameless file in $TMPDIR (or /tmp) first, since all of a write is judged
 before its first byte is written.
-Sectors are copied as they stand, enciphered.
+Sectors are copied as they stand, enciphered, unless read or write is given
+    --plaintext          read deciphers what it copies, write enciphers it,
+                         with AES-256 in XTS and the first 64 of the
+                         header's key bytes
+This is right only for volumes that are enciphered with AES alone, which a
+header does not tell: on any other a read gives noise, and a write leaves
+noise in the volume. FILE is then in the clear, and so is standard input
+while it waits in $TMPDIR. Whoever runs programs on the same machine at the
+time may learn something of the keys by timing.
 What reaches past the volume's end, or would touch a protected sector, is
 refused with the sector in the way, its place in IMAGE, and how much of
 what was asked for lies before it.

@@ -2,7 +2,7 @@
 
 use std::path::Path;
 
-use ondristela::{Kind, Layout, Location, Refusal, View};
+use ondristela::{Kind, Layout, Location, Refusal, View, KEY_SIZE};
 
 use crate::arguments::{without_header, Files};
 use crate::header_file::Header;
@@ -11,10 +11,12 @@ use crate::problem::Problem;
 use crate::thousands::thousands;
 use crate::volume::Volume;
 
-/// A volume, and where the image has its header; nowhere, if the risk was taken.
+/// A volume, where the image has its header (nowhere, if the risk was taken), and the key of its sectors, as long as
+/// they are enciphered with AES alone.
 pub struct Opened {
     pub view: View,
     pub header: Option<Location>,
+    pub key: [u8; KEY_SIZE],
 }
 
 /// The volumes whose headers are given. With both, the outer one has the hidden one protected.
@@ -36,13 +38,13 @@ impl Volumes {
         })
     }
 
-    /// The view of one of them.
-    pub fn into_view(self, volume: Volume) -> Result<View, Problem> {
+    /// One of them.
+    pub fn into_opened(self, volume: Volume) -> Result<Opened, Problem> {
         let opened = match volume {
             Volume::Outer => self.outer,
             Volume::Hidden => self.hidden,
         };
-        opened.map(|opened| opened.view).ok_or_else(|| without_header(volume))
+        opened.ok_or_else(|| without_header(volume))
     }
 }
 
@@ -54,7 +56,7 @@ fn volume(header: Header, protected: Option<Layout>) -> Result<Opened, Problem> 
         }
         None => View::plain(&layout)?,
     };
-    Ok(Opened { view, header: header.location })
+    Ok(Opened { view, header: header.location, key: header.key })
 }
 
 fn apart(refusal: Refusal, outer: &Layout, hidden: &Layout) -> Problem {
