@@ -1,0 +1,14 @@
+-- `ondristela::ondristela_decipher` meets its contract, which is that of the function it hands on to.
+-- Assumes nothing.
+use borrow.Author.Needs.{needs}
+use Rattle.ondristela.proofs.ondristela_decipher.Statement.{statement}
+use Rattle.ondristela.proofs.ondristela_decipher.Tie as tie
+
+decipher-requires : tie.Need-decipher-requires
+decipher-requires c κs = search needs
+
+returns : tie.Need-returns
+returns c = c .decipher .ensures
+
+pub ondristela-decipher-spec : {M : Type 1} → statement M
+ondristela-decipher-spec = tie.close (tie.spec decipher-requires returns)
