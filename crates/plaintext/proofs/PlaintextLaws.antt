@@ -21,28 +21,28 @@ use Rattle.plaintext.specs.declared.KeyedView.{KeyedView}
 
 module _ (key image buffer : List ℕ) (start : ℕ) (fits : start + length buffer ≤ length image) (whole : length buffer % 512 ≡ 0)
     (few : start / 512 + length buffer / 512 < 2 ^ 64) where
-  abbrev lent : List ℕ
-  lent = take (start + length buffer - start) (drop start image)
+  abbrev borrowed : List ℕ
+  borrowed = take (start + length buffer - start) (drop start image)
 
-  lent-size : length lent ≡ length buffer
-  lent-size = part-size start (length buffer) image fits
+  borrowed-size : length borrowed ≡ length buffer
+  borrowed-size = part-size start (length buffer) image fits
 
   -- a buffer that the part is deciphered into
-  pub deciphered-out : convertedRun Decipher key (start / 512) lent buffer
+  pub deciphered-out : convertedRun Decipher key (start / 512) borrowed buffer
       ≡ inUnits (deciphered key) (length buffer / 512) (start / 512) (take (length buffer) (drop start image))
   deciphered-out =
       let cut : start + length buffer - start ≡ length buffer = omega arith in
-      sym (run-fits Decipher key (start / 512) lent buffer lent-size (omega (arith, lent-size, whole)) (omega (arith, lent-size, few)))
-      ∙ ap₂ (λ (n : ℕ) (bytes : List ℕ). inUnits (deciphered key) (n / 512) (start / 512) bytes) lent-size
+      sym (run-fits Decipher key (start / 512) borrowed buffer borrowed-size (omega (arith, borrowed-size, whole)) (omega (arith, borrowed-size, few)))
+      ∙ ap₂ (λ (n : ℕ) (bytes : List ℕ). inUnits (deciphered key) (n / 512) (start / 512) bytes) borrowed-size
       (ap (λ (n : ℕ). take n (drop start image)) cut)
 
   -- an image whose part the buffer is enciphered into
-  pub enciphered-in : putMid start (start + length buffer - start) image (convertedRun Encipher key (start / 512) buffer lent)
+  pub enciphered-in : putMid start (start + length buffer - start) image (convertedRun Encipher key (start / 512) buffer borrowed)
       ≡ overlay start (inUnits (enciphered key) (length buffer / 512) (start / 512) buffer) image
   enciphered-in =
       let content = inUnits (enciphered key) (length buffer / 512) (start / 512) buffer in
       let size = length-units (enciphered key) (length-converted Encipher key) (length buffer / 512) (start / 512) buffer in
-      ap (putMid start (start + length buffer - start) image) (sym (run-fits Encipher key (start / 512) buffer lent (sym lent-size) whole few))
+      ap (putMid start (start + length buffer - start) image) (sym (run-fits Encipher key (start / 512) buffer borrowed (sym borrowed-size) whole few))
       ∙ part-laid start (length buffer) content image (omega (arith, size, whole))
 
 -- ---- by the answer
