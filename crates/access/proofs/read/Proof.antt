@@ -9,26 +9,11 @@ use Rattle.access.proofs.MovingLaws.{filled-accepted, filled-refused}
 use Rattle.access.proofs.read.Statement.{statement}
 use Rattle.access.proofs.read.Tie as tie
 
-read-extent-requires : tie.Need-read-extent-requires
-read-extent-requires c κs = search needs
-
-enum-known-placement : tie.Need-enum-known-placement
-enum-known-placement c = search needs
-
 fill-requires : tie.Need-fill-requires
 fill-requires c κs =
     let found = c .before .before in
     let given = placed-accepted _ _ (found .before .before .read-extent .ensures) (found .placement .given .1) in
     omega (arith, given .1, passed-ends _ _ _ _ _ _ (read-passed _ _ _ _ _ _ refl (given .0)))
-
-enum-known-placement-2 : tie.Need-enum-known-placement-2
-enum-known-placement-2 c = search needs
-
-enum-known-placement-3 : tie.Need-enum-known-placement-3
-enum-known-placement-3 c = search needs
-
-same-length : tie.Need-same-length
-same-length c = search needs
 
 returns : tie.Need-returns
 returns c =
@@ -56,12 +41,5 @@ pub read-spec : {M : Type 1} → statement M
 read-spec =
     tie.close
     (tie.spec
-    read-extent-requires
-    enum-known-placement
-    fill-requires
-    enum-known-placement-2
-    enum-known-placement-3
-    same-length
-    returns
-    returns-2
-    returns-3)
+    (λ c κs. search needs) (λ c. search needs) fill-requires (λ c. search needs) (λ c. search needs)
+    (λ c. search needs) returns returns-2 returns-3)

@@ -9,26 +9,11 @@ use Rattle.access.proofs.MovingLaws.{written-accepted, written-refused}
 use Rattle.access.proofs.write.Statement.{statement}
 use Rattle.access.proofs.write.Tie as tie
 
-write-extent-requires : tie.Need-write-extent-requires
-write-extent-requires c κs = search needs
-
-enum-known-placement : tie.Need-enum-known-placement
-enum-known-placement c = search needs
-
 lay-requires : tie.Need-lay-requires
 lay-requires c κs =
     let found = c .before .before in
     let given = placed-accepted _ _ (found .before .before .write-extent .ensures) (found .placement .given .1) in
     omega (arith, given .1, passed-ends _ _ _ _ _ _ (write-passed _ _ _ _ _ _ _ refl (given .0)))
-
-enum-known-placement-2 : tie.Need-enum-known-placement-2
-enum-known-placement-2 c = search needs
-
-enum-known-placement-3 : tie.Need-enum-known-placement-3
-enum-known-placement-3 c = search needs
-
-same-length : tie.Need-same-length
-same-length c = search needs
 
 returns : tie.Need-returns
 returns c =
@@ -55,12 +40,5 @@ pub write-spec : {M : Type 1} → statement M
 write-spec =
     tie.close
     (tie.spec
-    write-extent-requires
-    enum-known-placement
-    lay-requires
-    enum-known-placement-2
-    enum-known-placement-3
-    same-length
-    returns
-    returns-2
-    returns-3)
+    (λ c κs. search needs) (λ c. search needs) lay-requires (λ c. search needs) (λ c. search needs)
+    (λ c. search needs) returns returns-2 returns-3)

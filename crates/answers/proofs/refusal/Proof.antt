@@ -6,15 +6,6 @@ use Rattle.answers.specs.Answers.{answerRefusal}
 use Rattle.answers.proofs.refusal.Statement.{statement}
 use Rattle.answers.proofs.refusal.Tie as tie
 
-enum-told : tie.Need-enum-told
-enum-told c = search needs
-
-enum-known-answer : tie.Need-enum-known-answer
-enum-known-answer c = search needs
-
-enum-known-answer-2 : tie.Need-enum-known-answer-2
-enum-known-answer-2 c = search needs
-
 returns : tie.Need-returns
 unfolding answerRefusal
 returns c = rw (c .enum-told .given .1) refl
@@ -28,4 +19,4 @@ unfolding answerRefusal
 returns-3 c = rw (c .before .answer2 .given .1) refl
 
 pub refusal-spec : {M : Type 1} → statement M
-refusal-spec = tie.close (tie.spec enum-told enum-known-answer enum-known-answer-2 returns returns-2 returns-3)
+refusal-spec = tie.close (tie.spec (λ c. search needs) (λ c. search needs) (λ c. search needs) returns returns-2 returns-3)

@@ -7,21 +7,6 @@ use borrow.Author.Needs.{needs}
 use Rattle.boundary_access.proofs.give_answer.Statement.{statement}
 use Rattle.boundary_access.proofs.give_answer.Tie as tie
 
-enum-told : tie.Need-enum-told
-enum-told c = search needs
-
-enum-known-answer : tie.Need-enum-known-answer
-enum-known-answer c = search needs
-
-cast-result : tie.Need-cast-result
-cast-result c = search needs
-
-enum-known-answer-2 : tie.Need-enum-known-answer-2
-enum-known-answer-2 c = search needs
-
-cast-result-2 : tie.Need-cast-result-2
-cast-result-2 c = search needs
-
 returns : tie.Need-returns
 unfolding answerRefusal answerSector sectorLeft
 returns c = rw (c .enum-told .given .1) (record { returns = refl; names = refl })
@@ -38,11 +23,5 @@ pub give-answer-spec : {M : Type 1} → statement M
 give-answer-spec =
     tie.close
     (tie.spec
-    enum-told
-    enum-known-answer
-    cast-result
-    enum-known-answer-2
-    cast-result-2
-    returns
-    returns-2
-    returns-3)
+    (λ c. search needs) (λ c. search needs) (λ c. search needs) (λ c. search needs) (λ c. search needs) returns
+    returns-2 returns-3)

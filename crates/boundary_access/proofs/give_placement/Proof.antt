@@ -7,21 +7,6 @@ use borrow.Author.Needs.{needs}
 use Rattle.boundary_access.proofs.give_placement.Statement.{statement}
 use Rattle.boundary_access.proofs.give_placement.Tie as tie
 
-enum-known-placement : tie.Need-enum-known-placement
-enum-known-placement c = search needs
-
-enum-known-placement-2 : tie.Need-enum-known-placement-2
-enum-known-placement-2 c = search needs
-
-cast-result : tie.Need-cast-result
-cast-result c = search needs
-
-enum-known-placement-3 : tie.Need-enum-known-placement-3
-enum-known-placement-3 c = search needs
-
-cast-result-2 : tie.Need-cast-result-2
-cast-result-2 c = search needs
-
 returns : tie.Need-returns
 unfolding placementRefusal placementSector sectorLeft offsetLeft
 returns c = rw (c .before .before .placement .given .1) (refl, (refl, refl))
@@ -38,11 +23,5 @@ pub give-placement-spec : {M : Type 1} → statement M
 give-placement-spec =
     tie.close
     (tie.spec
-    enum-known-placement
-    enum-known-placement-2
-    cast-result
-    enum-known-placement-3
-    cast-result-2
-    returns
-    returns-2
-    returns-3)
+    (λ c. search needs) (λ c. search needs) (λ c. search needs) (λ c. search needs) (λ c. search needs) returns
+    returns-2 returns-3)

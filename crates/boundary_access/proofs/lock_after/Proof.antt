@@ -11,12 +11,9 @@ returns : tie.Need-returns
 unfolding viewLeft
 returns c = (refl, simp (ne-eqb _ _ (c .if1 .taken)))
 
-element-write-view : tie.Need-element-write-view
-element-write-view c = search needs
-
 returns-2 : tie.Need-returns-2
 unfolding viewLeft
 returns-2 c = (sym (c .if1 .left), rw (eq-eqb _ _ (c .if1 .left)) refl)
 
 pub lock-after-spec : {M : Type 1} → statement M
-lock-after-spec = tie.close (tie.spec returns element-write-view returns-2)
+lock-after-spec = tie.close (tie.spec returns (λ c. search needs) returns-2)

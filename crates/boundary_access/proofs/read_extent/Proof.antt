@@ -5,25 +5,10 @@ use borrow.Author.Needs.{needs}
 use Rattle.boundary_access.proofs.read_extent.Statement.{statement}
 use Rattle.boundary_access.proofs.read_extent.Tie as tie
 
-view-from-requires : tie.Need-view-from-requires
-view-from-requires c κs = search needs
-
-read-extent-requires : tie.Need-read-extent-requires
-read-extent-requires c κs = search needs
-
-give-placement-requires : tie.Need-give-placement-requires
-give-placement-requires c κs = search needs
-
 returns : tie.Need-returns
 returns c =
     let placed = c .before .before .before in
     read-extent-call _ _ _ _ _ _ (placed .before .view-from .ensures) _ _ _ _ _ _ (c .give-placement .ensures) (placed .read-extent .ensures)
 
 pub read-extent-spec : {M : Type 1} → statement M
-read-extent-spec =
-    tie.close
-    (tie.spec
-    view-from-requires
-    read-extent-requires
-    give-placement-requires
-    returns)
+read-extent-spec = tie.close (tie.spec (λ c κs. search needs) (λ c κs. search needs) (λ c κs. search needs) returns)

@@ -5,18 +5,6 @@ use borrow.Author.Needs.{needs}
 use Rattle.boundary_access.proofs.write_extent.Statement.{statement}
 use Rattle.boundary_access.proofs.write_extent.Tie as tie
 
-view-from-requires : tie.Need-view-from-requires
-view-from-requires c κs = search needs
-
-write-extent-requires : tie.Need-write-extent-requires
-write-extent-requires c κs = search needs
-
-give-placement-requires : tie.Need-give-placement-requires
-give-placement-requires c κs = search needs
-
-lock-after-requires : tie.Need-lock-after-requires
-lock-after-requires c κs = search needs
-
 returns : tie.Need-returns
 returns c =
     let given = c .before .before in
@@ -25,11 +13,4 @@ returns c =
     (c .lock-after .ensures .0) (c .lock-after .ensures .1)
 
 pub write-extent-spec : {M : Type 1} → statement M
-write-extent-spec =
-    tie.close
-    (tie.spec
-    view-from-requires
-    write-extent-requires
-    give-placement-requires
-    lock-after-requires
-    returns)
+write-extent-spec = tie.close (tie.spec (λ c κs. search needs) (λ c κs. search needs) (λ c κs. search needs) (λ c κs. search needs) returns)

@@ -9,18 +9,6 @@ use Rattle.header_writing.specs.{HeaderWriting.{writtenRefusal, askedLayout, he
 use Rattle.boundary_headers.proofs.write_header.Statement.{statement}
 use Rattle.boundary_headers.proofs.write_header.Tie as tie
 
-write-requires : tie.Need-write-requires
-write-requires c κs = search needs
-
-refusal-requires : tie.Need-refusal-requires
-refusal-requires c κs = search needs
-
-cast-result : tie.Need-cast-result
-cast-result c = search needs
-
-same-length : tie.Need-same-length
-same-length c = search needs
-
 returns : tie.Need-returns
 returns c =
     let write = c .before .before .before in
@@ -35,11 +23,4 @@ returns c =
     )
 
 pub write-header-spec : {M : Type 1} → statement M
-write-header-spec =
-    tie.close
-    (tie.spec
-    write-requires
-    refusal-requires
-    cast-result
-    same-length
-    returns)
+write-header-spec = tie.close (tie.spec (λ c κs. search needs) (λ c κs. search needs) (λ c. search needs) (λ c. search needs) returns)

@@ -7,15 +7,6 @@ use borrow.Author.Needs.{needs}
 use Rattle.boundary_map.proofs.give_block.Statement.{statement}
 use Rattle.boundary_map.proofs.give_block.Tie as tie
 
-enum-told : tie.Need-enum-told
-enum-told c = search needs
-
-enum-known-answer : tie.Need-enum-known-answer
-enum-known-answer c = search needs
-
-cast-result : tie.Need-cast-result
-cast-result c = search needs
-
 returns : tie.Need-returns
 unfolding numberedRefusal blockLeft
 returns c = rw (c .enum-told .given .1) (refl, refl)
@@ -25,4 +16,4 @@ unfolding numberedRefusal blockLeft
 returns-2 c = rw (c .before .answer .given .1) (refl, refl)
 
 pub give-block-spec : {M : Type 1} → statement M
-give-block-spec = tie.close (tie.spec enum-told enum-known-answer cast-result returns returns-2)
+give-block-spec = tie.close (tie.spec (λ c. search needs) (λ c. search needs) (λ c. search needs) returns returns-2)

@@ -9,15 +9,6 @@ use borrow.Author.Needs.{needs}
 use Rattle.boundary_map.proofs.tweak.Statement.{statement}
 use Rattle.boundary_map.proofs.tweak.Tie as tie
 
-layout-from-requires : tie.Need-layout-from-requires
-layout-from-requires c κs = search needs
-
-tweak-block-requires : tie.Need-tweak-block-requires
-tweak-block-requires c κs = search needs
-
-give-block-requires : tie.Need-give-block-requires
-give-block-requires c κs = search needs
-
 returns : tie.Need-returns
 returns c =
     let made = c .before .before in
@@ -26,5 +17,4 @@ returns c =
     (λ (l : Layout). tweakOf l (told .before .args .user)) (made .tweak-block .ensures) (told .layout-from .ensures) (c .give-block .ensures)
 
 pub tweak-spec : {M : Type 1} → statement M
-tweak-spec =
-    tie.close (tie.spec layout-from-requires tweak-block-requires give-block-requires returns)
+tweak-spec = tie.close (tie.spec (λ c κs. search needs) (λ c κs. search needs) (λ c κs. search needs) returns)

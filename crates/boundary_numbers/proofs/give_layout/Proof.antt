@@ -9,18 +9,6 @@ use borrow.Author.Needs.{needs}
 use Rattle.boundary_numbers.proofs.give_layout.Statement.{statement}
 use Rattle.boundary_numbers.proofs.give_layout.Tie as tie
 
-enum-known-answer : tie.Need-enum-known-answer
-enum-known-answer c = search needs
-
-store-layout-requires : tie.Need-store-layout-requires
-store-layout-requires c κs = search needs
-
-enum-known-answer-2 : tie.Need-enum-known-answer-2
-enum-known-answer-2 c = search needs
-
-cast-result : tie.Need-cast-result
-cast-result c = search needs
-
 returns : tie.Need-returns
 unfolding openedRefusal openedLeft
 returns c =
@@ -32,12 +20,4 @@ unfolding openedRefusal openedLeft
 returns-2 c = rw (c .before .answer2 .given .1) (refl, refl)
 
 pub give-layout-spec : {M : Type 1} → statement M
-give-layout-spec =
-    tie.close
-    (tie.spec
-    enum-known-answer
-    store-layout-requires
-    enum-known-answer-2
-    cast-result
-    returns
-    returns-2)
+give-layout-spec = tie.close (tie.spec (λ c. search needs) (λ c κs. search needs) (λ c. search needs) (λ c. search needs) returns returns-2)

@@ -7,15 +7,6 @@ use borrow.Author.Needs.{needs}
 use Rattle.boundary_numbers.proofs.give_number.Statement.{statement}
 use Rattle.boundary_numbers.proofs.give_number.Tie as tie
 
-enum-known-answer : tie.Need-enum-known-answer
-enum-known-answer c = search needs
-
-enum-known-answer-2 : tie.Need-enum-known-answer-2
-enum-known-answer-2 c = search needs
-
-cast-result : tie.Need-cast-result
-cast-result c = search needs
-
 returns : tie.Need-returns
 unfolding numberedRefusal numberedLeft
 returns c = rw (c .before .before .answer .given .1) (refl, refl)
@@ -25,5 +16,4 @@ unfolding numberedRefusal numberedLeft
 returns-2 c = rw (c .before .answer2 .given .1) (refl, refl)
 
 pub give-number-spec : {M : Type 1} → statement M
-give-number-spec =
-    tie.close (tie.spec enum-known-answer enum-known-answer-2 cast-result returns returns-2)
+give-number-spec = tie.close (tie.spec (λ c. search needs) (λ c. search needs) (λ c. search needs) returns returns-2)

@@ -4,11 +4,8 @@ use borrow.Author.Needs.{needs}
 use Rattle.boundary_numbers.proofs.layout_from.Statement.{statement}
 use Rattle.boundary_numbers.proofs.layout_from.Tie as tie
 
-read-layout-requires : tie.Need-read-layout-requires
-read-layout-requires c κs = search needs
-
 returns : tie.Need-returns
 returns c = c .read-layout .ensures
 
 pub layout-from-spec : {M : Type 1} → statement M
-layout-from-spec = tie.close (tie.spec read-layout-requires returns)
+layout-from-spec = tie.close (tie.spec (λ c κs. search needs) returns)

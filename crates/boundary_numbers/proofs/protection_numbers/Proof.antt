@@ -6,12 +6,6 @@ use borrow.Author.Needs.{needs}
 use Rattle.boundary_numbers.proofs.protection_numbers.Statement.{statement}
 use Rattle.boundary_numbers.proofs.protection_numbers.Tie as tie
 
-enum-told : tie.Need-enum-told
-enum-told c = search needs
-
-enum-known-protection : tie.Need-enum-known-protection
-enum-known-protection c = search needs
-
 returns : tie.Need-returns
 unfolding protectionNumbers
 returns c = rw (c .enum-told .given .1) refl
@@ -21,4 +15,4 @@ unfolding protectionNumbers
 returns-2 c = rw (c .before .protection .given .1) refl
 
 pub protection-numbers-spec : {M : Type 1} → statement M
-protection-numbers-spec = tie.close (tie.spec enum-told enum-known-protection returns returns-2)
+protection-numbers-spec = tie.close (tie.spec (λ c. search needs) (λ c. search needs) returns returns-2)

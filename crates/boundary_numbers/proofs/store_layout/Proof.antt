@@ -8,9 +8,6 @@ use borrow.Author.Needs.{needs}
 use Rattle.boundary_numbers.proofs.store_layout.Statement.{statement}
 use Rattle.boundary_numbers.proofs.store_layout.Tie as tie
 
-slice-write-numbers : tie.Need-slice-write-numbers
-slice-write-numbers c = search needs
-
 slice-write-numbers-2 : tie.Need-slice-write-numbers-2
 slice-write-numbers-2 c = simp length-set (omega (arith, c .pre))
 
@@ -35,9 +32,6 @@ slice-write-numbers-8 c = simp length-set (omega (arith, c .pre))
 slice-write-numbers-9 : tie.Need-slice-write-numbers-9
 slice-write-numbers-9 c = simp length-set (omega (arith, c .pre))
 
-same-length : tie.Need-same-length
-same-length c = search needs
-
 returns : tie.Need-returns
 unfolding layoutNumbers
 returns c = sets-eq (layoutNumbers (c .args .layout)) (now (c .args .numbers)) 0 (c .pre)
@@ -46,14 +40,6 @@ pub store-layout-spec : {M : Type 1} → statement M
 store-layout-spec =
     tie.close
     (tie.spec
-    slice-write-numbers
-    slice-write-numbers-2
-    slice-write-numbers-3
-    slice-write-numbers-4
-    slice-write-numbers-5
-    slice-write-numbers-6
-    slice-write-numbers-7
-    slice-write-numbers-8
-    slice-write-numbers-9
-    same-length
+    (λ c. search needs) slice-write-numbers-2 slice-write-numbers-3 slice-write-numbers-4 slice-write-numbers-5
+    slice-write-numbers-6 slice-write-numbers-7 slice-write-numbers-8 slice-write-numbers-9 (λ c. search needs)
     returns)

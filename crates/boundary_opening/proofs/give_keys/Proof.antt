@@ -16,20 +16,11 @@ few c =
     let known = c .before .before in
     subst (λ (answer : Opened). keysOffset answer ≤ 32768) (known .answer .given .1) (known .before .before .pre)
 
-enum-known-answer : tie.Need-enum-known-answer
-enum-known-answer c = search needs
-
 mul-offset : tie.Need-mul-offset
 mul-offset c = record { fits = omega (arith, few c) }
 
 add-offset : tie.Need-add-offset
 add-offset c = record { fits = omega (arith, few c) }
-
-enum-known-answer-2 : tie.Need-enum-known-answer-2
-enum-known-answer-2 c = search needs
-
-cast-result : tie.Need-cast-result
-cast-result c = search needs
 
 returns : tie.Need-returns
 unfolding openedRefusal keysOffset keysSize keysLeft
@@ -40,13 +31,4 @@ unfolding openedRefusal keysOffset keysSize keysLeft
 returns-2 c = rw (c .before .answer2 .given .1) (refl, refl)
 
 pub give-keys-spec : {M : Type 1} → statement M
-give-keys-spec =
-    tie.close
-    (tie.spec
-    enum-known-answer
-    mul-offset
-    add-offset
-    enum-known-answer-2
-    cast-result
-    returns
-    returns-2)
+give-keys-spec = tie.close (tie.spec (λ c. search needs) mul-offset add-offset (λ c. search needs) (λ c. search needs) returns returns-2)

@@ -8,9 +8,6 @@ use borrow.Author.Needs.{needs}
 use Rattle.boundary_opening.proofs.keys.Statement.{statement}
 use Rattle.boundary_opening.proofs.keys.Tie as tie
 
-open-requires : tie.Need-open-requires
-open-requires c κs = search needs
-
 give-keys-requires : tie.Need-give-keys-requires
 give-keys-requires c κs = rw (c .before .«open» .ensures) (keys-offset-most _ _ _)
 
@@ -18,4 +15,4 @@ returns : tie.Need-returns
 returns c = given openedRefusal keysLeft (c .before .before .«open» .ensures) (c .give-keys .ensures)
 
 pub keys-spec : {M : Type 1} → statement M
-keys-spec = tie.close (tie.spec open-requires give-keys-requires returns)
+keys-spec = tie.close (tie.spec (λ c κs. search needs) give-keys-requires returns)

@@ -7,20 +7,10 @@ use borrow.Author.Needs.{needs}
 use Rattle.boundary_views.proofs.plain.Statement.{statement}
 use Rattle.boundary_views.proofs.plain.Tie as tie
 
-layout-from-requires : tie.Need-layout-from-requires
-layout-from-requires c κs = search needs
-
-plain-requires : tie.Need-plain-requires
-plain-requires c κs = search needs
-
-give-view-requires : tie.Need-give-view-requires
-give-view-requires c κs = search needs
-
 returns : tie.Need-returns
 returns c =
     let made = c .before .before in
     given-for viewedRefusal viewedLeft plainView (made .plain .ensures) (made .before .layout-from .ensures) (c .give-view .ensures)
 
 pub plain-spec : {M : Type 1} → statement M
-plain-spec =
-    tie.close (tie.spec layout-from-requires plain-requires give-view-requires returns)
+plain-spec = tie.close (tie.spec (λ c κs. search needs) (λ c κs. search needs) (λ c κs. search needs) returns)

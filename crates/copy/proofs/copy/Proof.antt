@@ -14,17 +14,11 @@ returns c =
     let args = c .before .before .before .args in
     sym (copied-none (now (args .from)) (now (args .to)) (c .if1 .taken))
 
-slice-relend-prefix-copy-all : tie.Need-slice-relend-prefix-copy-all
-slice-relend-prefix-copy-all c = search needs
-
 slice-aggregate-copy-all : tie.Need-slice-aggregate-copy-all
 slice-aggregate-copy-all c = sym (length-take-le _ _ (c .before .if1 .left))
 
 copy-all-requires : tie.Need-copy-all-requires
 copy-all-requires c κs = length-take-le _ _ (c .before .if1 .left)
-
-same-length : tie.Need-same-length
-same-length c = search needs
 
 returns-2 : tie.Need-returns-2
 returns-2 c =
@@ -36,12 +30,4 @@ returns-2 c =
     ap (λ (bytes : List ℕ). bytes ++ drop (length from) to) (all .copy-all .ensures) ∙ sym (copied-fits from to (room .if1 .left))
 
 pub copy-spec : {M : Type 1} → statement M
-copy-spec =
-    tie.close
-    (tie.spec
-    returns
-    slice-relend-prefix-copy-all
-    slice-aggregate-copy-all
-    copy-all-requires
-    same-length
-    returns-2)
+copy-spec = tie.close (tie.spec returns (λ c. search needs) slice-aggregate-copy-all copy-all-requires (λ c. search needs) returns-2)

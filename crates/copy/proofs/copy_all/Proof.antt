@@ -19,35 +19,11 @@ abbrev μ-loop : tie.MeasureT-loop
 loop-holds : tie.Need-loop-holds Inv-loop μ-loop
 loop-holds c = (zero-le, (c .before .before .pre, refl))
 
-chunk-end-requires : tie.Need-chunk-end-requires Inv-loop μ-loop
-chunk-end-requires c κs = search needs
-
-sub-copy-chunk : tie.Need-sub-copy-chunk Inv-loop μ-loop
-sub-copy-chunk c = search needs
-
-part-copy-chunk-start : tie.Need-part-copy-chunk-start Inv-loop μ-loop
-part-copy-chunk-start c = search needs
-
-part-copy-chunk-end : tie.Need-part-copy-chunk-end Inv-loop μ-loop
-part-copy-chunk-end c = search needs
-
-sub-copy-chunk-2 : tie.Need-sub-copy-chunk-2 Inv-loop μ-loop
-sub-copy-chunk-2 c = search needs
-
-part-copy-chunk-start-2 : tie.Need-part-copy-chunk-start-2 Inv-loop μ-loop
-part-copy-chunk-start-2 c = search needs
-
-part-copy-chunk-end-2 : tie.Need-part-copy-chunk-end-2 Inv-loop μ-loop
-part-copy-chunk-end-2 c = search needs
-
 copy-chunk-requires : tie.Need-copy-chunk-requires Inv-loop μ-loop
 copy-chunk-requires c κs =
     let chunk = c .before .before .chunk-end .ensures in
     let at = c .before .before .before .before .loop in
     (simp (length-take, length-drop) (omega (arith, chunk)), simp (length-take, length-drop) (omega (arith, at .inv .1 .0)))
-
-loop-less : tie.Need-loop-less Inv-loop μ-loop
-loop-less c = search needs
 
 loop-again : tie.Need-loop-again Inv-loop μ-loop
 loop-again c =
@@ -60,9 +36,6 @@ loop-again c =
     let to : List ℕ = now (start .args .to) in
     let more = begun-more from to _ _ (at .done) _ (omega (arith, end)) (end .1 .0) (at .inv .1 .1) (copied .copy-chunk .ensures) in
     (end .1 .0, (ap length more ∙ begun-length from to _ (end .1 .0) (start .pre), more))
-
-same-length : tie.Need-same-length Inv-loop μ-loop
-same-length c = search needs
 
 returns : tie.Need-returns Inv-loop μ-loop
 returns c =
@@ -77,18 +50,6 @@ pub copy-all-spec : {M : Type 1} → statement M
 copy-all-spec =
     tie.close
     (tie.spec
-    Inv-loop
-    μ-loop
-    loop-holds
-    chunk-end-requires
-    sub-copy-chunk
-    part-copy-chunk-start
-    part-copy-chunk-end
-    sub-copy-chunk-2
-    part-copy-chunk-start-2
-    part-copy-chunk-end-2
-    copy-chunk-requires
-    loop-less
-    loop-again
-    same-length
-    returns)
+    Inv-loop μ-loop loop-holds (λ c κs. search needs) (λ c. search needs) (λ c. search needs) (λ c. search needs)
+    (λ c. search needs) (λ c. search needs) (λ c. search needs) copy-chunk-requires (λ c. search needs) loop-again
+    (λ c. search needs) returns)

@@ -18,15 +18,6 @@ first : (c : tie.After-local3) →
     take (length from) (copied .copy .last .1 .0) ≡ from
 first c = copied-first _ (replicate 65536 0) _ (c .before .before .copy .ensures .1)
 
-slice-aggregate-copy : tie.Need-slice-aggregate-copy
-slice-aggregate-copy c = search needs
-
-copy-requires : tie.Need-copy-requires
-copy-requires c κs = search needs
-
-array-share-prefix-local : tie.Need-array-share-prefix-local
-array-share-prefix-local c = search needs
-
 slice-aggregate-copy-2 : tie.Need-slice-aggregate-copy-2
 slice-aggregate-copy-2 c = sym (ap length (first c))
 
@@ -35,9 +26,6 @@ copy-requires-2 c κs =
     let copied = c .before .before .before in
     let start = copied .before .before .before in
     omega (arith, ap length (first (c .before)), start .before .pre .1)
-
-same-length : tie.Need-same-length
-same-length c = search needs
 
 returns : tie.Need-returns
 returns c =
@@ -53,10 +41,5 @@ pub copy-chunk-spec : {M : Type 1} → statement M
 copy-chunk-spec =
     tie.close
     (tie.spec
-    slice-aggregate-copy
-    copy-requires
-    array-share-prefix-local
-    slice-aggregate-copy-2
-    copy-requires-2
-    same-length
-    returns)
+    (λ c. search needs) (λ c κs. search needs) (λ c. search needs) slice-aggregate-copy-2 copy-requires-2
+    (λ c. search needs) returns)

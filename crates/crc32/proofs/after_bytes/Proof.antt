@@ -16,30 +16,6 @@ Inv-loop tables start bytes crc₀ i₀ crc i =
 abbrev μ-loop : tie.MeasureT-loop
 μ-loop tables start bytes crc₀ i₀ crc i = length bytes - i
 
-loop-holds : tie.Need-loop-holds Inv-loop μ-loop
-loop-holds c = search needs
-
-shared-slice-read-wide : tie.Need-shared-slice-read-wide Inv-loop μ-loop
-shared-slice-read-wide c = search needs
-
-wide-requires : tie.Need-wide-requires Inv-loop μ-loop
-wide-requires c κs = search needs
-
-cast-at : tie.Need-cast-at Inv-loop μ-loop
-cast-at c = search needs
-
-mul-crc : tie.Need-mul-crc Inv-loop μ-loop
-mul-crc c = search needs
-
-element-copy-out-crc : tie.Need-element-copy-out-crc Inv-loop μ-loop
-element-copy-out-crc c = search needs
-
-add-i : tie.Need-add-i Inv-loop μ-loop
-add-i c = search needs
-
-loop-less : tie.Need-loop-less Inv-loop μ-loop
-loop-less c = search needs
-
 loop-again : tie.Need-loop-again Inv-loop μ-loop
 loop-again c =
     let byte = c .before in
@@ -56,15 +32,5 @@ pub after-bytes-spec : {M : Type 1} → statement M
 after-bytes-spec =
     tie.close
     (tie.spec
-    Inv-loop
-    μ-loop
-    loop-holds
-    shared-slice-read-wide
-    wide-requires
-    cast-at
-    mul-crc
-    element-copy-out-crc
-    add-i
-    loop-less
-    loop-again
-    returns)
+    Inv-loop μ-loop (λ c. search needs) (λ c. search needs) (λ c κs. search needs) (λ c. search needs)
+    (λ c. search needs) (λ c. search needs) (λ c. search needs) (λ c. search needs) loop-again returns)

@@ -16,21 +16,6 @@ Inv-loop tables start bytes crc₀ i₀ crc i =
 abbrev μ-loop : tie.MeasureT-loop
 μ-loop tables start bytes crc₀ i₀ crc i = length bytes - i
 
-loop-holds : tie.Need-loop-holds Inv-loop μ-loop
-loop-holds c = search needs
-
-word-at-requires : tie.Need-word-at-requires Inv-loop μ-loop
-word-at-requires c κs = search needs
-
-after-word-requires : tie.Need-after-word-requires Inv-loop μ-loop
-after-word-requires c κs = search needs
-
-add-i : tie.Need-add-i Inv-loop μ-loop
-add-i c = search needs
-
-loop-less : tie.Need-loop-less Inv-loop μ-loop
-loop-less c = search needs
-
 loop-again : tie.Need-loop-again Inv-loop μ-loop
 loop-again c =
     let word = c .before in
@@ -51,12 +36,5 @@ pub after-words-spec : {M : Type 1} → statement M
 after-words-spec =
     tie.close
     (tie.spec
-    Inv-loop
-    μ-loop
-    loop-holds
-    word-at-requires
-    after-word-requires
-    add-i
-    loop-less
-    loop-again
-    returns)
+    Inv-loop μ-loop (λ c. search needs) (λ c κs. search needs) (λ c κs. search needs) (λ c. search needs)
+    (λ c. search needs) loop-again returns)

@@ -16,21 +16,6 @@ slice-aggregate-after-bytes c =
     let few : length bytes % 4 ≤ length bytes = omega arith in
     sym (length-take-le (length bytes % 4) bytes few)
 
-after-bytes-requires : tie.Need-after-bytes-requires
-after-bytes-requires c κs = search needs
-
-sub-after-words : tie.Need-sub-after-words
-sub-after-words c = search needs
-
-part-after-words-start : tie.Need-part-after-words-start
-part-after-words-start c = search needs
-
-part-after-words-end : tie.Need-part-after-words-end
-part-after-words-end c = search needs
-
-after-words-requires : tie.Need-after-words-requires
-after-words-requires c κs = search needs
-
 returns : tie.Need-returns
 unfolding crc32
 returns c =
@@ -46,10 +31,5 @@ pub sum-spec : {M : Type 1} → statement M
 sum-spec =
     tie.close
     (tie.spec
-    slice-aggregate-after-bytes
-    after-bytes-requires
-    sub-after-words
-    part-after-words-start
-    part-after-words-end
-    after-words-requires
-    returns)
+    slice-aggregate-after-bytes (λ c κs. search needs) (λ c. search needs) (λ c. search needs) (λ c. search needs)
+    (λ c κs. search needs) returns)

@@ -6,19 +6,13 @@ use Rattle.extent.specs.Extents.{beyond}
 use Rattle.extent.proofs.first_past.Statement.{statement}
 use Rattle.extent.proofs.first_past.Tie as tie
 
-ends-by-requires : tie.Need-ends-by-requires
-ends-by-requires c κs = search needs
-
 returns : tie.Need-returns
 unfolding beyond
 returns c = simp (sym (c .before .ends-by .ensures) ∙ c .if1 .taken)
-
-larger-requires : tie.Need-larger-requires
-larger-requires c κs = search needs
 
 returns-2 : tie.Need-returns-2
 unfolding beyond
 returns-2 c = simp (← c .larger .ensures, sym (c .before .before .ends-by .ensures) ∙ c .before .if1 .left)
 
 pub first-past-spec : {M : Type 1} → statement M
-first-past-spec = tie.close (tie.spec ends-by-requires returns larger-requires returns-2)
+first-past-spec = tie.close (tie.spec (λ c κs. search needs) returns (λ c κs. search needs) returns-2)

@@ -7,18 +7,9 @@ use Rattle.extent.specs.Extents.{overlap}
 use Rattle.extent.proofs.first_shared.Statement.{statement}
 use Rattle.extent.proofs.first_shared.Tie as tie
 
-larger-requires : tie.Need-larger-requires
-larger-requires c κs = search needs
-
-has-requires : tie.Need-has-requires
-has-requires c κs = search needs
-
 returns : tie.Need-returns
 unfolding overlap
 returns c = simp (← c .before .before .larger .ensures, sym (c .before .has .ensures) ∙ not-true _ (c .if1 .taken))
-
-has-requires-2 : tie.Need-has-requires-2
-has-requires-2 c κs = search needs
 
 returns-2 : tie.Need-returns-2
 unfolding overlap
@@ -41,5 +32,4 @@ returns-3 c =
     )
 
 pub first-shared-spec : {M : Type 1} → statement M
-first-shared-spec =
-    tie.close (tie.spec larger-requires has-requires returns has-requires-2 returns-2 returns-3)
+first-shared-spec = tie.close (tie.spec (λ c κs. search needs) (λ c κs. search needs) returns (λ c κs. search needs) returns-2 returns-3)

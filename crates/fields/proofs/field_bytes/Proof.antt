@@ -6,27 +6,6 @@ use Rattle.fields.proofs.BytesLaws.{part-cut}
 use Rattle.fields.proofs.field_bytes.Statement.{statement}
 use Rattle.fields.proofs.field_bytes.Tie as tie
 
-smaller-requires : tie.Need-smaller-requires
-smaller-requires c κs = search needs
-
-sub-smaller : tie.Need-sub-smaller
-sub-smaller c = search needs
-
-smaller-requires-2 : tie.Need-smaller-requires-2
-smaller-requires-2 c κs = search needs
-
-add-result : tie.Need-add-result
-add-result c = search needs
-
-sub-result : tie.Need-sub-result
-sub-result c = search needs
-
-part-result-start : tie.Need-part-result-start
-part-result-start c = search needs
-
-part-result-end : tie.Need-part-result-end
-part-result-end c = search needs
-
 returns : tie.Need-returns
 returns c =
     let second = c .before in
@@ -38,11 +17,5 @@ pub field-bytes-spec : {M : Type 1} → statement M
 field-bytes-spec =
     tie.close
     (tie.spec
-    smaller-requires
-    sub-smaller
-    smaller-requires-2
-    add-result
-    sub-result
-    part-result-start
-    part-result-end
-    returns)
+    (λ c κs. search needs) (λ c. search needs) (λ c κs. search needs) (λ c. search needs) (λ c. search needs)
+    (λ c. search needs) (λ c. search needs) returns)

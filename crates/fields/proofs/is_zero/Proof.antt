@@ -18,9 +18,6 @@ Inv-loop bytes zeros₀ zeros = (zeros ≤ length bytes) × (allZero (drop zeros
 abbrev μ-loop : tie.MeasureT-loop
 μ-loop bytes zeros₀ zeros = length bytes - zeros
 
-loop-holds : tie.Need-loop-holds Inv-loop μ-loop
-loop-holds c = search needs
-
 shared-slice-read-if1 : tie.Need-shared-slice-read-if1 Inv-loop μ-loop
 shared-slice-read-if1 c = omega arith
 
@@ -51,12 +48,4 @@ pub is-zero-spec : {M : Type 1} → statement M
 is-zero-spec =
     tie.close
     (tie.spec
-    Inv-loop
-    μ-loop
-    loop-holds
-    shared-slice-read-if1
-    returns
-    add-zeros
-    loop-less
-    loop-again
-    returns-2)
+    Inv-loop μ-loop (λ c. search needs) shared-slice-read-if1 returns add-zeros loop-less loop-again returns-2)

@@ -104,18 +104,9 @@ told-10 c =
     let r = read9 (c .before .before) in
     rw (layout-told (c .before), ← r .read-fields .ensures) (sym (c .keeps-area .ensures))
 
-read-fields-requires : tie.Need-read-fields-requires
-read-fields-requires c κs = search needs
-
-keeps-version-requires : tie.Need-keeps-version-requires
-keeps-version-requires c κs = search needs
-
 returns : tie.Need-returns
 unfolding judge
 returns c = sym (line-kept _ _ (is-header (c .before .before)) (line-broken _ _ (told-5 (c .before) ∙ not-true _ (c .if1 .taken))))
-
-keeps-reserved-requires : tie.Need-keeps-reserved-requires
-keeps-reserved-requires c κs = search needs
 
 returns-2 : tie.Need-returns-2
 unfolding judge
@@ -135,9 +126,6 @@ returns-3 c =
     (line-kept _ _ (kept-5 at5)
     (line-kept _ _ (kept-6 at6) (line-broken _ _ (broken-7 c)))))
 
-is-sector-size-requires : tie.Need-is-sector-size-requires
-is-sector-size-requires c κs = search needs
-
 returns-4 : tie.Need-returns-4
 unfolding judge
 returns-4 c =
@@ -149,9 +137,6 @@ returns-4 c =
     (line-kept _ _ (kept-5 at5)
     (line-kept _ _ (kept-6 at6)
     (line-kept _ _ (kept-7 at7) (line-broken _ _ (told-8 (c .before) ∙ not-true _ (c .if4 .taken)))))))
-
-keeps-hidden-size-requires : tie.Need-keeps-hidden-size-requires
-keeps-hidden-size-requires c κs = search needs
 
 returns-5 : tie.Need-returns-5
 unfolding judge
@@ -166,12 +151,6 @@ returns-5 c =
     (line-kept _ _ (kept-6 at6)
     (line-kept _ _ (kept-7 at7)
     (line-kept _ _ (kept-8 at8) (line-broken _ _ (told-9 (c .before) ∙ not-true _ (c .if5 .taken))))))))
-
-accepted-layout-requires : tie.Need-accepted-layout-requires
-accepted-layout-requires c κs = search needs
-
-keeps-area-requires : tie.Need-keeps-area-requires
-keeps-area-requires c κs = search needs
 
 returns-6 : tie.Need-returns-6
 unfolding judge
@@ -211,17 +190,6 @@ pub first-broken-spec : {M : Type 1} → statement M
 first-broken-spec =
     tie.close
     (tie.spec
-    read-fields-requires
-    keeps-version-requires
-    returns
-    keeps-reserved-requires
-    returns-2
-    returns-3
-    is-sector-size-requires
-    returns-4
-    keeps-hidden-size-requires
-    returns-5
-    accepted-layout-requires
-    keeps-area-requires
-    returns-6
-    returns-7)
+    (λ c κs. search needs) (λ c κs. search needs) returns (λ c κs. search needs) returns-2 returns-3
+    (λ c κs. search needs) returns-4 (λ c κs. search needs) returns-5 (λ c κs. search needs) (λ c κs. search needs)
+    returns-6 returns-7)

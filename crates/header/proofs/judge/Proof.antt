@@ -32,15 +32,9 @@ returns : tie.Need-returns
 unfolding judge
 returns c = sym (line-broken _ _ (no-header c))
 
-magic-of-requires : tie.Need-magic-of-requires
-magic-of-requires c κs = search needs
-
 returns-2 : tie.Need-returns-2
 unfolding judge
 returns-2 c = sym (line-broken _ _ (no-magic c))
-
-checksums-match-requires : tie.Need-checksums-match-requires
-checksums-match-requires c κs = search needs
 
 returns-3 : tie.Need-returns-3
 unfolding judge
@@ -53,13 +47,4 @@ returns-4 : tie.Need-returns-4
 returns-4 c = c .first-broken .ensures
 
 pub judge-spec : {M : Type 1} → statement M
-judge-spec =
-    tie.close
-    (tie.spec
-    returns
-    magic-of-requires
-    returns-2
-    checksums-match-requires
-    returns-3
-    first-broken-requires
-    returns-4)
+judge-spec = tie.close (tie.spec returns (λ c κs. search needs) returns-2 (λ c κs. search needs) returns-3 first-broken-requires returns-4)

@@ -10,12 +10,9 @@ returns : tie.Need-returns
 unfolding areaRule
 returns c = simp (ne-eqb _ _ (c .if1 .taken))
 
-is-data-area-requires : tie.Need-is-data-area-requires
-is-data-area-requires c κs = search needs
-
 returns-2 : tie.Need-returns-2
 unfolding areaRule
 returns-2 c = simp (eq-eqb _ _ (c .before .if1 .left)) (c .is-data-area .ensures)
 
 pub keeps-area-spec : {M : Type 1} → statement M
-keeps-area-spec = tie.close (tie.spec returns is-data-area-requires returns-2)
+keeps-area-spec = tie.close (tie.spec returns (λ c κs. search needs) returns-2)

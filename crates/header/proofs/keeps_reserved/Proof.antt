@@ -23,23 +23,11 @@ returns-2 : tie.Need-returns-2
 unfolding reservedRule
 returns-2 c = simp (eq-eqb _ _ (c .before .if1 .left), ne-eqb _ _ (c .if2 .taken))
 
-field-bytes-requires : tie.Need-field-bytes-requires
-field-bytes-requires c κs = search needs
-
-is-zero-requires : tie.Need-is-zero-requires
-is-zero-requires c κs = search needs
-
 returns-3 : tie.Need-returns-3
 unfolding reservedRule
 returns-3 c =
     let tests = c .before .before .before in
     simp (eq-eqb _ _ (tests .before .if1 .left), eq-eqb _ _ (tests .if2 .left), first-zero (c .before) ∙ not-true _ (c .if3 .taken))
-
-field-bytes-requires-2 : tie.Need-field-bytes-requires-2
-field-bytes-requires-2 c κs = search needs
-
-is-zero-requires-2 : tie.Need-is-zero-requires-2
-is-zero-requires-2 c κs = search needs
 
 returns-4 : tie.Need-returns-4
 unfolding reservedRule
@@ -53,11 +41,5 @@ pub keeps-reserved-spec : {M : Type 1} → statement M
 keeps-reserved-spec =
     tie.close
     (tie.spec
-    returns
-    returns-2
-    field-bytes-requires
-    is-zero-requires
-    returns-3
-    field-bytes-requires-2
-    is-zero-requires-2
-    returns-4)
+    returns returns-2 (λ c κs. search needs) (λ c κs. search needs) returns-3 (λ c κs. search needs)
+    (λ c κs. search needs) returns-4)

@@ -6,15 +6,9 @@ use borrow.Author.Needs.{needs}
 use Rattle.header.proofs.magic_of.Statement.{statement}
 use Rattle.header.proofs.magic_of.Tie as tie
 
-field-bytes-requires : tie.Need-field-bytes-requires
-field-bytes-requires c κs = search needs
-
-magic-number-requires : tie.Need-magic-number-requires
-magic-number-requires c κs = search needs
-
 returns : tie.Need-returns
 unfolding magicOf
 returns c = c .magic-number .ensures ∙ ap magicNumber (c .before .field-bytes .ensures)
 
 pub magic-of-spec : {M : Type 1} → statement M
-magic-of-spec = tie.close (tie.spec field-bytes-requires magic-number-requires returns)
+magic-of-spec = tie.close (tie.spec (λ c κs. search needs) (λ c κs. search needs) returns)

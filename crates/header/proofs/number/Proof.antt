@@ -6,16 +6,10 @@ use lib.ListN.{length-take}
 use Rattle.header.proofs.number.Statement.{statement}
 use Rattle.header.proofs.number.Tie as tie
 
-field-bytes-requires : tie.Need-field-bytes-requires
-field-bytes-requires c κs = search needs
-
-read-big-endian-requires : tie.Need-read-big-endian-requires
-read-big-endian-requires c κs = search needs
-
 returns : tie.Need-returns
 returns c =
     let bytes = c .before .field-bytes .ensures in
     rw bytes at (c .read-big-endian .ensures .whole (rw bytes (simp length-take (omega arith))))
 
 pub number-spec : {M : Type 1} → statement M
-number-spec = tie.close (tie.spec field-bytes-requires read-big-endian-requires returns)
+number-spec = tie.close (tie.spec (λ c κs. search needs) (λ c κs. search needs) returns)

@@ -10,30 +10,6 @@ use borrow.Author.Needs.{needs}
 use Rattle.header.proofs.read_fields.Statement.{statement}
 use Rattle.header.proofs.read_fields.Tie as tie
 
-number-requires : tie.Need-number-requires
-number-requires c κs = search needs
-
-number-requires-2 : tie.Need-number-requires-2
-number-requires-2 c κs = search needs
-
-number-requires-3 : tie.Need-number-requires-3
-number-requires-3 c κs = search needs
-
-number-requires-4 : tie.Need-number-requires-4
-number-requires-4 c κs = search needs
-
-number-requires-5 : tie.Need-number-requires-5
-number-requires-5 c κs = search needs
-
-number-requires-6 : tie.Need-number-requires-6
-number-requires-6 c κs = search needs
-
-number-requires-7 : tie.Need-number-requires-7
-number-requires-7 c κs = search needs
-
-number-requires-8 : tie.Need-number-requires-8
-number-requires-8 c κs = search needs
-
 returns : tie.Need-returns
 unfolding fieldsOf
 returns c =
@@ -68,12 +44,5 @@ pub read-fields-spec : {M : Type 1} → statement M
 read-fields-spec =
     tie.close
     (tie.spec
-    number-requires
-    number-requires-2
-    number-requires-3
-    number-requires-4
-    number-requires-5
-    number-requires-6
-    number-requires-7
-    number-requires-8
-    returns)
+    (λ c κs. search needs) (λ c κs. search needs) (λ c κs. search needs) (λ c κs. search needs) (λ c κs. search needs)
+    (λ c κs. search needs) (λ c κs. search needs) (λ c κs. search needs) returns)

@@ -13,9 +13,6 @@ use Rattle.header_writing.specs.declared.Written.{Written, the-variants.
 use Rattle.header_writing.proofs.judge.Statement.{statement}
 use Rattle.header_writing.proofs.judge.Tie as tie
 
-lengths-fit-requires : tie.Need-lengths-fit-requires
-lengths-fit-requires c κs = search needs
-
 returns : tie.Need-returns
 unfolding headerAnswer
 returns c = simp (sym (c .before .lengths-fit .ensures) ∙ not-true _ (c .if1 .taken))
@@ -52,16 +49,10 @@ returns-3 c =
     let magic = c .before in
     simp (lengths-kept (magic .before .before), le-leb _ _ (magic .if2 .left), lt-leb _ _ (c .if3 .taken))
 
-is-host-size-requires : tie.Need-is-host-size-requires
-is-host-size-requires c κs = search needs
-
 returns-4 : tie.Need-returns-4
 returns-4 c =
     let host = c .before in
     rw (numbers-left (host .before), sym (host .is-host-size .ensures) ∙ not-true _ (c .if4 .taken)) refl
-
-keeps-version-requires : tie.Need-keeps-version-requires
-keeps-version-requires c κs = search needs
 
 -- .. and once the host's size is right, those of the version, the sectors and the data area; then of the last two, and of the area alone
 version-left : (c : tie.Else4)
@@ -97,14 +88,8 @@ area-left c = rw (sectors-left (c .before .before), sectors-told (c .before) ∙
 returns-5 : tie.Need-returns-5
 returns-5 c = rw (version-left (c .before .before), sym (c .before .keeps-version .ensures) ∙ not-true _ (c .if5 .taken)) refl
 
-is-sector-size-requires : tie.Need-is-sector-size-requires
-is-sector-size-requires c κs = search needs
-
 returns-6 : tie.Need-returns-6
 returns-6 c = rw (sectors-left (c .before .before), sectors-told (c .before) ∙ not-true _ (c .if6 .taken)) refl
-
-is-data-area-requires : tie.Need-is-data-area-requires
-is-data-area-requires c κs = search needs
 
 returns-7 : tie.Need-returns-7
 returns-7 c = rw (area-left (c .before .before), sym (c .before .is-data-area .ensures) ∙ not-true _ (c .if7 .taken)) refl
@@ -116,16 +101,5 @@ pub judge-spec : {M : Type 1} → statement M
 judge-spec =
     tie.close
     (tie.spec
-    lengths-fit-requires
-    returns
-    returns-2
-    returns-3
-    is-host-size-requires
-    returns-4
-    keeps-version-requires
-    returns-5
-    is-sector-size-requires
-    returns-6
-    is-data-area-requires
-    returns-7
-    returns-8)
+    (λ c κs. search needs) returns returns-2 returns-3 (λ c κs. search needs) returns-4 (λ c κs. search needs)
+    returns-5 (λ c κs. search needs) returns-6 (λ c κs. search needs) returns-7 returns-8)

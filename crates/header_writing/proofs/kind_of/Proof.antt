@@ -15,15 +15,9 @@ returns c =
     let past : length locations ≤ c .before .args .code = omega (arith, c .if1 .taken) in
     sym (ap (λ (location : Location). location .kind) (List·getD-eq-default locations _ past))
 
-mul-entry : tie.Need-mul-entry
-mul-entry c = search needs
-
-array-copy-out-entry : tie.Need-array-copy-out-entry
-array-copy-out-entry c = search needs
-
 returns-2 : tie.Need-returns-2
 unfolding locationOf locations
 returns-2 c = refl
 
 pub kind-of-spec : {M : Type 1} → statement M
-kind-of-spec = tie.close (tie.spec returns mul-entry array-copy-out-entry returns-2)
+kind-of-spec = tie.close (tie.spec returns (λ c. search needs) (λ c. search needs) returns-2)

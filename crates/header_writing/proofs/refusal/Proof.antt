@@ -6,12 +6,6 @@ use Rattle.header_writing.specs.HeaderWriting.{writtenRefusal}
 use Rattle.header_writing.proofs.refusal.Statement.{statement}
 use Rattle.header_writing.proofs.refusal.Tie as tie
 
-enum-told : tie.Need-enum-told
-enum-told c = search needs
-
-enum-known-written : tie.Need-enum-known-written
-enum-known-written c = search needs
-
 returns : tie.Need-returns
 unfolding writtenRefusal
 returns c = rw (c .enum-told .given .1) refl
@@ -21,4 +15,4 @@ unfolding writtenRefusal
 returns-2 c = rw (c .before .written .given .1) refl
 
 pub refusal-spec : {M : Type 1} → statement M
-refusal-spec = tie.close (tie.spec enum-told enum-known-written returns returns-2)
+refusal-spec = tie.close (tie.spec (λ c. search needs) (λ c. search needs) returns returns-2)

@@ -12,21 +12,6 @@ use Rattle.header_writing.specs.HeaderWriting.{askedLayout, headerAnswer
 use Rattle.header_writing.proofs.write.Statement.{statement}
 use Rattle.header_writing.proofs.write.Tie as tie
 
-kind-of-requires : tie.Need-kind-of-requires
-kind-of-requires c κs = search needs
-
-slice-aggregate-magic-number : tie.Need-slice-aggregate-magic-number
-slice-aggregate-magic-number c = search needs
-
-magic-number-requires : tie.Need-magic-number-requires
-magic-number-requires c κs = search needs
-
-write-layout-requires : tie.Need-write-layout-requires
-write-layout-requires c κs = search needs
-
-same-length : tie.Need-same-length
-same-length c = search needs
-
 returns : tie.Need-returns
 unfolding askedLayout
 returns c =
@@ -73,9 +58,5 @@ pub write-spec : {M : Type 1} → statement M
 write-spec =
     tie.close
     (tie.spec
-    kind-of-requires
-    slice-aggregate-magic-number
-    magic-number-requires
-    write-layout-requires
-    same-length
+    (λ c κs. search needs) (λ c. search needs) (λ c κs. search needs) (λ c κs. search needs) (λ c. search needs)
     returns)

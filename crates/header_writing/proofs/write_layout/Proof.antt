@@ -8,21 +8,6 @@ use borrow.Author.Needs.{needs}
 use Rattle.header_writing.proofs.write_layout.Statement.{statement}
 use Rattle.header_writing.proofs.write_layout.Tie as tie
 
-judge-requires : tie.Need-judge-requires
-judge-requires c κs = search needs
-
-enum-told : tie.Need-enum-told
-enum-told c = search needs
-
-lay-requires : tie.Need-lay-requires
-lay-requires c κs = search needs
-
-enum-known-answer : tie.Need-enum-known-answer
-enum-known-answer c = search needs
-
-same-length : tie.Need-same-length
-same-length c = search needs
-
 returns : tie.Need-returns
 unfolding headerLeft
 returns c =
@@ -43,10 +28,5 @@ pub write-layout-spec : {M : Type 1} → statement M
 write-layout-spec =
     tie.close
     (tie.spec
-    judge-requires
-    enum-told
-    lay-requires
-    enum-known-answer
-    same-length
-    returns
+    (λ c κs. search needs) (λ c. search needs) (λ c κs. search needs) (λ c. search needs) (λ c. search needs) returns
     returns-2)

@@ -8,15 +8,6 @@ use Rattle.judgement.proofs.JudgingLaws.{blocked-apart, blocked-from}
 use Rattle.judgement.proofs.judge_end.Statement.{statement}
 use Rattle.judgement.proofs.judge_end.Tie as tie
 
-first-past-requires : tie.Need-first-past-requires
-first-past-requires c κs = search needs
-
-enum-told : tie.Need-enum-told
-enum-told c = search needs
-
-enum-known-past : tie.Need-enum-known-past
-enum-known-past c = search needs
-
 returns : tie.Need-returns
 unfolding endAnswer sectors
 returns c = blocked-apart 16 Accepted (c .before .before .first-past .ensures) (c .enum-told .given .1)
@@ -26,4 +17,4 @@ unfolding endAnswer sectors
 returns-2 c = let found = c .before in blocked-from 16 Accepted (found .before .before .first-past .ensures) (found .past .given .1)
 
 pub judge-end-spec : {M : Type 1} → statement M
-judge-end-spec = tie.close (tie.spec first-past-requires enum-told enum-known-past returns returns-2)
+judge-end-spec = tie.close (tie.spec (λ c κs. search needs) (λ c. search needs) (λ c. search needs) returns returns-2)

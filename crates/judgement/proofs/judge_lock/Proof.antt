@@ -13,18 +13,6 @@ returns : tie.Need-returns
 unfolding lockAnswer
 returns c = rw (c .if1 .taken) refl
 
-protected-extent-requires : tie.Need-protected-extent-requires
-protected-extent-requires c κs = search needs
-
-first-shared-requires : tie.Need-first-shared-requires
-first-shared-requires c κs = search needs
-
-enum-told : tie.Need-enum-told
-enum-told c = search needs
-
-enum-known-shared : tie.Need-enum-known-shared
-enum-known-shared c = search needs
-
 returns-2 : tie.Need-returns-2
 unfolding lockAnswer
 returns-2 c =
@@ -46,10 +34,4 @@ pub judge-lock-spec : {M : Type 1} → statement M
 judge-lock-spec =
     tie.close
     (tie.spec
-    returns
-    protected-extent-requires
-    first-shared-requires
-    enum-told
-    enum-known-shared
-    returns-2
-    returns-3)
+    returns (λ c κs. search needs) (λ c κs. search needs) (λ c. search needs) (λ c. search needs) returns-2 returns-3)

@@ -31,9 +31,6 @@ four-passed c =
     let two = second c in
     (both-sound (two .before .before), eq-eqb _ _ (two .if2 .left), le-leb _ _ (c .before .if3 .left), eq-eqb _ _ (c .if4 .left))
 
-is-sound-requires : tie.Need-is-sound-requires
-is-sound-requires c κs = search needs
-
 returns : tie.Need-returns
 unfolding readAnswer checked
 returns c = simp (sym (c .before .is-sound .ensures) ∙ not-true _ (c .if1 .taken))
@@ -47,9 +44,6 @@ unfolding readAnswer checked
 returns-3 c =
     let two = c .before in
     simp (both-sound (two .before .before), eq-eqb _ _ (two .if2 .left), lt-leb _ _ (c .if3 .taken))
-
-mul-if4 : tie.Need-mul-if4
-mul-if4 c = search needs
 
 returns-4 : tie.Need-returns-4
 unfolding readAnswer checked
@@ -70,9 +64,6 @@ returns-5 c =
     let p = four-passed (c .before .before) in
     simp (p .0, p .1, p .2, p .3, sym (c .before .is-aligned .ensures) ∙ not-true _ (c .if5 .taken))
 
-judge-end-requires : tie.Need-judge-end-requires
-judge-end-requires c κs = search needs
-
 returns-6 : tie.Need-returns-6
 unfolding readAnswer checked
 returns-6 c =
@@ -84,13 +75,5 @@ pub judge-read-spec : {M : Type 1} → statement M
 judge-read-spec =
     tie.close
     (tie.spec
-    is-sound-requires
-    returns
-    returns-2
-    returns-3
-    mul-if4
-    returns-4
-    is-aligned-requires
-    returns-5
-    judge-end-requires
-    returns-6)
+    (λ c κs. search needs) returns returns-2 returns-3 (λ c. search needs) returns-4 is-aligned-requires returns-5
+    (λ c κs. search needs) returns-6)

@@ -8,21 +8,6 @@ use Rattle.judgement.proofs.JudgingLaws.{read-passed, checked-passed, c
 use Rattle.judgement.proofs.judge_write.Statement.{statement}
 use Rattle.judgement.proofs.judge_write.Tie as tie
 
-judge-read-requires : tie.Need-judge-read-requires
-judge-read-requires c κs = search needs
-
-enum-told : tie.Need-enum-told
-enum-told c = search needs
-
-judge-lock-requires : tie.Need-judge-lock-requires
-judge-lock-requires c κs = search needs
-
-enum-told-2 : tie.Need-enum-told-2
-enum-told-2 c = search needs
-
-enum-told-3 : tie.Need-enum-told-3
-enum-told-3 c = search needs
-
 returns : tie.Need-returns
 unfolding writeAnswer
 returns c =
@@ -42,4 +27,6 @@ returns-3 c = checked-refused _ _ _ _ _ _ _ (c .before .before .judge-read .ensu
 pub judge-write-spec : {M : Type 1} → statement M
 judge-write-spec =
     tie.close
-    (tie.spec judge-read-requires enum-told judge-lock-requires enum-told-2 enum-told-3 returns returns-2 returns-3)
+    (tie.spec
+    (λ c κs. search needs) (λ c. search needs) (λ c κs. search needs) (λ c. search needs) (λ c. search needs) returns
+    returns-2 returns-3)

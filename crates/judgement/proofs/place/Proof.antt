@@ -6,17 +6,8 @@ use Rattle.judgement.specs.Offsets.{placedBy}
 use Rattle.judgement.proofs.place.Statement.{statement}
 use Rattle.judgement.proofs.place.Tie as tie
 
-enum-told : tie.Need-enum-told
-enum-told c = search needs
-
 extent-start-requires : tie.Need-extent-start-requires
 extent-start-requires c κs = c .before .before .pre (c .enum-told .given .1)
-
-enum-known-answer : tie.Need-enum-known-answer
-enum-known-answer c = search needs
-
-enum-known-answer-2 : tie.Need-enum-known-answer-2
-enum-known-answer-2 c = search needs
 
 returns : tie.Need-returns
 unfolding placedBy
@@ -34,10 +25,4 @@ pub place-spec : {M : Type 1} → statement M
 place-spec =
     tie.close
     (tie.spec
-    enum-told
-    extent-start-requires
-    enum-known-answer
-    enum-known-answer-2
-    returns
-    returns-2
-    returns-3)
+    (λ c. search needs) extent-start-requires (λ c. search needs) (λ c. search needs) returns returns-2 returns-3)

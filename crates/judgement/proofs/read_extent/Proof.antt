@@ -8,9 +8,6 @@ use Rattle.judgement.proofs.JudgingLaws.{read-passed, passed-starts}
 use Rattle.judgement.proofs.read_extent.Statement.{statement}
 use Rattle.judgement.proofs.read_extent.Tie as tie
 
-judge-read-requires : tie.Need-judge-read-requires
-judge-read-requires c κs = search needs
-
 place-requires : tie.Need-place-requires
 place-requires c κs = λ e. passed-starts _ _ _ _ _ _ (read-passed _ _ _ _ _ _ (c .judge-read .ensures) e)
 
@@ -20,4 +17,4 @@ returns c =
     c .place .ensures ∙ ap (λ (answer : Answer). placedBy answer (a .layout) (a .first)) (c .before .judge-read .ensures)
 
 pub read-extent-spec : {M : Type 1} → statement M
-read-extent-spec = tie.close (tie.spec judge-read-requires place-requires returns)
+read-extent-spec = tie.close (tie.spec (λ c κs. search needs) place-requires returns)

@@ -8,9 +8,6 @@ use Rattle.judgement.proofs.JudgingLaws.{write-passed, passed-starts}
 use Rattle.judgement.proofs.write_extent.Statement.{statement}
 use Rattle.judgement.proofs.write_extent.Tie as tie
 
-judge-write-requires : tie.Need-judge-write-requires
-judge-write-requires c κs = search needs
-
 place-requires : tie.Need-place-requires
 place-requires c κs = λ e. passed-starts _ _ _ _ _ _ (write-passed _ _ _ _ _ _ _ (c .judge-write .ensures) e)
 
@@ -20,4 +17,4 @@ returns c =
     c .place .ensures ∙ ap (λ (answer : Answer). placedBy answer (a .layout) (a .first)) (c .before .judge-write .ensures)
 
 pub write-extent-spec : {M : Type 1} → statement M
-write-extent-spec = tie.close (tie.spec judge-write-requires place-requires returns)
+write-extent-spec = tie.close (tie.spec (λ c κs. search needs) place-requires returns)

@@ -7,19 +7,13 @@ use Rattle.layout.specs.Rules.{dataAreaRule}
 use Rattle.layout.proofs.is_data_area.Statement.{statement}
 use Rattle.layout.proofs.is_data_area.Tie as tie
 
-is-of-sectors-requires : tie.Need-is-of-sectors-requires
-is-of-sectors-requires c κs = search needs
-
 returns : tie.Need-returns
 unfolding dataAreaRule
 returns c = simp (sym (c .before .is-of-sectors .ensures) ∙ not-true _ (c .if1 .taken))
-
-is-in-place-requires : tie.Need-is-in-place-requires
-is-in-place-requires c κs = search needs
 
 returns-2 : tie.Need-returns-2
 unfolding dataAreaRule
 returns-2 c = simp (sym (c .before .before .is-of-sectors .ensures) ∙ not-false _ (c .before .if1 .left)) (c .is-in-place .ensures)
 
 pub is-data-area-spec : {M : Type 1} → statement M
-is-data-area-spec = tie.close (tie.spec is-of-sectors-requires returns is-in-place-requires returns-2)
+is-data-area-spec = tie.close (tie.spec (λ c κs. search needs) returns (λ c κs. search needs) returns-2)

@@ -12,9 +12,6 @@ use Rattle.layout.proofs.TestLaws.{leb-iff}
 use Rattle.layout.proofs.is_in_place.Statement.{statement}
 use Rattle.layout.proofs.is_in_place.Tie as tie
 
-wrapping-add-u64-requires : tie.Need-wrapping-add-u64-requires
-wrapping-add-u64-requires c κs = search needs
-
 returns : tie.Need-returns
 returns c = sym (past-backups (c .before .before .args .layout) (omega arith))
 
@@ -62,5 +59,4 @@ returns-7 c =
     simp (ne-eqb _ _ (other .if3 .left), eq-eqb _ _ (c .before .if5 .left), le-leb _ _ (c .if6 .left)) (ends (other .before .before .before))
 
 pub is-in-place-spec : {M : Type 1} → statement M
-is-in-place-spec =
-    tie.close (tie.spec wrapping-add-u64-requires returns returns-2 returns-3 returns-4 returns-5 returns-6 returns-7)
+is-in-place-spec = tie.close (tie.spec (λ c κs. search needs) returns returns-2 returns-3 returns-4 returns-5 returns-6 returns-7)

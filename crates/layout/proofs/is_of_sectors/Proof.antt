@@ -10,9 +10,6 @@ use Rattle.layout.proofs.SectorSizeLaws.{sector-size-least, below-none,
 use Rattle.layout.proofs.is_of_sectors.Statement.{statement}
 use Rattle.layout.proofs.is_of_sectors.Tie as tie
 
-is-sector-size-requires : tie.Need-is-sector-size-requires
-is-sector-size-requires c κs = search needs
-
 returns : tie.Need-returns
 unfolding sectorsRule
 returns c = simp (sym (c .before .is-sector-size .ensures) ∙ not-true _ (c .if1 .taken))
@@ -43,4 +40,4 @@ returns-3 c =
     ∙ ap (λ (whole : Bool). whole && multiple (layout .«host_size») (layout .«sector_size»)) (both-multiple _ right size start))
 
 pub is-of-sectors-spec : {M : Type 1} → statement M
-is-of-sectors-spec = tie.close (tie.spec is-sector-size-requires returns returns-2 sub-below returns-3)
+is-of-sectors-spec = tie.close (tie.spec (λ c κs. search needs) returns returns-2 sub-below returns-3)

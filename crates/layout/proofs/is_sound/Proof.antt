@@ -7,19 +7,13 @@ use borrow.Author.Needs.{needs}
 use Rattle.layout.proofs.is_sound.Statement.{statement}
 use Rattle.layout.proofs.is_sound.Tie as tie
 
-is-host-size-requires : tie.Need-is-host-size-requires
-is-host-size-requires c κs = search needs
-
 returns : tie.Need-returns
 unfolding sound
 returns c = simp (sym (c .before .is-host-size .ensures) ∙ not-true _ (c .if1 .taken))
-
-is-data-area-requires : tie.Need-is-data-area-requires
-is-data-area-requires c κs = search needs
 
 returns-2 : tie.Need-returns-2
 unfolding sound
 returns-2 c = simp (sym (c .before .before .is-host-size .ensures) ∙ not-false _ (c .before .if1 .left)) (c .is-data-area .ensures)
 
 pub is-sound-spec : {M : Type 1} → statement M
-is-sound-spec = tie.close (tie.spec is-host-size-requires returns is-data-area-requires returns-2)
+is-sound-spec = tie.close (tie.spec (λ c κs. search needs) returns (λ c κs. search needs) returns-2)

@@ -6,12 +6,6 @@ use Rattle.layout.specs.Opened.{openedRefusal}
 use Rattle.layout.proofs.refusal.Statement.{statement}
 use Rattle.layout.proofs.refusal.Tie as tie
 
-enum-told : tie.Need-enum-told
-enum-told c = search needs
-
-enum-known-opened : tie.Need-enum-known-opened
-enum-known-opened c = search needs
-
 returns : tie.Need-returns
 unfolding openedRefusal
 returns c = rw (c .enum-told .given .1) refl
@@ -21,4 +15,4 @@ unfolding openedRefusal
 returns-2 c = rw (c .before .opened .given .1) refl
 
 pub refusal-spec : {M : Type 1} → statement M
-refusal-spec = tie.close (tie.spec enum-told enum-known-opened returns returns-2)
+refusal-spec = tie.close (tie.spec (λ c. search needs) (λ c. search needs) returns returns-2)

@@ -20,24 +20,9 @@ returns : tie.Need-returns
 unfolding located codeRule
 returns c = simp (lt-leb _ _ (c .if1 .taken))
 
-is-host-size-requires : tie.Need-is-host-size-requires
-is-host-size-requires c κs = search needs
-
 returns-2 : tie.Need-returns-2
 unfolding located codeRule
 returns-2 c = simp (le-leb _ _ (c .before .before .if1 .left), sym (c .before .is-host-size .ensures) ∙ not-true _ (c .if2 .taken))
-
-mul-entry : tie.Need-mul-entry
-mul-entry c = search needs
-
-array-copy-out-entry : tie.Need-array-copy-out-entry
-array-copy-out-entry c = search needs
-
-enum-told : tie.Need-enum-told
-enum-told c = search needs
-
-enum-told-2 : tie.Need-enum-told-2
-enum-told-2 c = search needs
 
 sub-t22 : tie.Need-sub-t22
 unfolding locationOf locations
@@ -64,13 +49,5 @@ pub locate-spec : {M : Type 1} → statement M
 locate-spec =
     tie.close
     (tie.spec
-    returns
-    is-host-size-requires
-    returns-2
-    mul-entry
-    array-copy-out-entry
-    enum-told
-    enum-told-2
-    sub-t22
-    returns-3
-    returns-4)
+    returns (λ c κs. search needs) returns-2 (λ c. search needs) (λ c. search needs) (λ c. search needs)
+    (λ c. search needs) sub-t22 returns-3 returns-4)

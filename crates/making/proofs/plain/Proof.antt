@@ -7,9 +7,6 @@ use borrow.Author.Needs.{needs}
 use Rattle.making.proofs.plain.Statement.{statement}
 use Rattle.making.proofs.plain.Tie as tie
 
-is-sound-requires : tie.Need-is-sound-requires
-is-sound-requires c κs = search needs
-
 returns : tie.Need-returns
 unfolding plainView plainOf
 returns c = simp (sym (c .before .is-sound .ensures) ∙ not-true _ (c .if1 .taken))
@@ -19,4 +16,4 @@ unfolding plainView plainOf
 returns-2 c = simp (sym (c .before .is-sound .ensures) ∙ not-false _ (c .if1 .left))
 
 pub plain-spec : {M : Type 1} → statement M
-plain-spec = tie.close (tie.spec is-sound-requires returns returns-2)
+plain-spec = tie.close (tie.spec (λ c κs. search needs) returns returns-2)

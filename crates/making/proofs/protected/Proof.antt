@@ -9,21 +9,12 @@ use Rattle.making.specs.Views.{protectedView, protectedOf, madeBy}
 use Rattle.making.proofs.protected.Statement.{statement}
 use Rattle.making.proofs.protected.Tie as tie
 
-check-pair-requires : tie.Need-check-pair-requires
-check-pair-requires c κs = search needs
-
-enum-told : tie.Need-enum-told
-enum-told c = search needs
-
 add-end : tie.Need-add-end
 add-end c =
     let accepted = c .before in
     let checked = accepted .before .before in
     let kept = pair-hidden-sound _ _ (checked .check-pair .ensures) (accepted .enum-told .given .1) in
     record { fits = omega (arith, sound-end-le _ kept) }
-
-enum-known-pair : tie.Need-enum-known-pair
-enum-known-pair c = search needs
 
 returns : tie.Need-returns
 unfolding protectedView protectedOf madeBy areaEnd
@@ -39,5 +30,4 @@ returns-2 c =
     simp (← refused .before .before .check-pair .ensures, refused .pair .given .1)
 
 pub protected-spec : {M : Type 1} → statement M
-protected-spec =
-    tie.close (tie.spec check-pair-requires enum-told add-end enum-known-pair returns returns-2)
+protected-spec = tie.close (tie.spec (λ c κs. search needs) (λ c. search needs) add-end (λ c. search needs) returns returns-2)

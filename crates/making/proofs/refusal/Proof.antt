@@ -6,12 +6,6 @@ use Rattle.making.specs.Views.{viewedRefusal}
 use Rattle.making.proofs.refusal.Statement.{statement}
 use Rattle.making.proofs.refusal.Tie as tie
 
-enum-told : tie.Need-enum-told
-enum-told c = search needs
-
-enum-known-viewed : tie.Need-enum-known-viewed
-enum-known-viewed c = search needs
-
 returns : tie.Need-returns
 unfolding viewedRefusal
 returns c = rw (c .enum-told .given .1) refl
@@ -21,4 +15,4 @@ unfolding viewedRefusal
 returns-2 c = rw (c .before .viewed .given .1) refl
 
 pub refusal-spec : {M : Type 1} → statement M
-refusal-spec = tie.close (tie.spec enum-told enum-known-viewed returns returns-2)
+refusal-spec = tie.close (tie.spec (λ c. search needs) (λ c. search needs) returns returns-2)

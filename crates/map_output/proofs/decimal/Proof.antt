@@ -21,9 +21,6 @@ abbrev μ-loop : tie.MeasureT-loop
 sub-at : tie.Need-sub-at Inv-loop μ-loop
 sub-at c = omega arith
 
-digit-requires : tie.Need-digit-requires Inv-loop μ-loop
-digit-requires c κs = search needs
-
 element-write-digits : tie.Need-element-write-digits Inv-loop μ-loop
 element-write-digits c = omega arith
 
@@ -34,9 +31,6 @@ loop-holds c =
 
 sub-at-2 : tie.Need-sub-at-2 Inv-loop μ-loop
 sub-at-2 c = fewer-digits (c .before .loop .at) (c .before .loop .rest) (c .loop-test .taken) (c .before .loop .inv .2) .0
-
-digit-requires-2 : tie.Need-digit-requires-2 Inv-loop μ-loop
-digit-requires-2 c κs = search needs
 
 element-write-digits-2 : tie.Need-element-write-digits-2 Inv-loop μ-loop
 element-write-digits-2 c = omega arith
@@ -70,15 +64,5 @@ pub decimal-spec : {M : Type 1} → statement M
 decimal-spec =
     tie.close
     (tie.spec
-    Inv-loop
-    μ-loop
-    sub-at
-    digit-requires
-    element-write-digits
-    loop-holds
-    sub-at-2
-    digit-requires-2
-    element-write-digits-2
-    loop-less
-    loop-again
-    returns)
+    Inv-loop μ-loop sub-at (λ c κs. search needs) element-write-digits loop-holds sub-at-2 (λ c κs. search needs)
+    element-write-digits-2 loop-less loop-again returns)

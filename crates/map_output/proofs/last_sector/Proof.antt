@@ -7,12 +7,6 @@ use Rattle.map_output.specs.MapOutput.{lastSector}
 use Rattle.map_output.proofs.last_sector.Statement.{statement}
 use Rattle.map_output.proofs.last_sector.Tie as tie
 
-sub-result : tie.Need-sub-result
-sub-result c = search needs
-
-add-result : tie.Need-add-result
-add-result c = search needs
-
 returns : tie.Need-returns
 unfolding lastSector sectors firstSector
 returns c = search needs
@@ -22,4 +16,4 @@ unfolding lastSector sectors firstSector
 returns-2 c = refl
 
 pub last-sector-spec : {M : Type 1} → statement M
-last-sector-spec = tie.close (tie.spec sub-result add-result returns returns-2)
+last-sector-spec = tie.close (tie.spec (λ c. search needs) (λ c. search needs) returns returns-2)

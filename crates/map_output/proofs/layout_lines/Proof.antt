@@ -6,15 +6,6 @@ use borrow.Author.Needs.{needs}
 use Rattle.map_output.proofs.layout_lines.Statement.{statement}
 use Rattle.map_output.proofs.layout_lines.Tie as tie
 
-put-header-requires : tie.Need-put-header-requires
-put-header-requires c κs = search needs
-
-put-area-requires : tie.Need-put-area-requires
-put-area-requires c κs = search needs
-
-put-sectors-requires : tie.Need-put-sectors-requires
-put-sectors-requires c κs = search needs
-
 returns : tie.Need-returns
 unfolding layoutLines
 returns c =
@@ -23,5 +14,4 @@ returns c =
     written-first (written-append (written-append (header .put-header .ensures) (area .put-area .ensures)) (c .put-sectors .ensures))
 
 pub layout-lines-spec : {M : Type 1} → statement M
-layout-lines-spec =
-    tie.close (tie.spec put-header-requires put-area-requires put-sectors-requires returns)
+layout-lines-spec = tie.close (tie.spec (λ c κs. search needs) (λ c κs. search needs) (λ c κs. search needs) returns)

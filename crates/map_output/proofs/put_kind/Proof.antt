@@ -5,21 +5,6 @@ use Rattle.map_output.specs.MapOutput.{kindLine}
 use Rattle.map_output.proofs.put_kind.Statement.{statement}
 use Rattle.map_output.proofs.put_kind.Tie as tie
 
-slice-aggregate-put-either : tie.Need-slice-aggregate-put-either
-slice-aggregate-put-either c = search needs
-
-slice-aggregate-put-either-2 : tie.Need-slice-aggregate-put-either-2
-slice-aggregate-put-either-2 c = search needs
-
-slice-aggregate-put-either-3 : tie.Need-slice-aggregate-put-either-3
-slice-aggregate-put-either-3 c = search needs
-
-put-either-requires : tie.Need-put-either-requires
-put-either-requires c κs = search needs
-
-same-length : tie.Need-same-length
-same-length c = search needs
-
 returns : tie.Need-returns
 unfolding kindLine
 returns c = c .before .before .put-either .ensures
@@ -28,9 +13,4 @@ pub put-kind-spec : {M : Type 1} → statement M
 put-kind-spec =
     tie.close
     (tie.spec
-    slice-aggregate-put-either
-    slice-aggregate-put-either-2
-    slice-aggregate-put-either-3
-    put-either-requires
-    same-length
-    returns)
+    (λ c. search needs) (λ c. search needs) (λ c. search needs) (λ c κs. search needs) (λ c. search needs) returns)

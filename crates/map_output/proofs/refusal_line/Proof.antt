@@ -6,15 +6,9 @@ use borrow.Author.Needs.{needs}
 use Rattle.map_output.proofs.refusal_line.Statement.{statement}
 use Rattle.map_output.proofs.refusal_line.Tie as tie
 
-slice-aggregate-put-number : tie.Need-slice-aggregate-put-number
-slice-aggregate-put-number c = search needs
-
-put-number-requires : tie.Need-put-number-requires
-put-number-requires c κs = search needs
-
 returns : tie.Need-returns
 unfolding refusalLine
 returns c = written-first (c .put-number .ensures)
 
 pub refusal-line-spec : {M : Type 1} → statement M
-refusal-line-spec = tie.close (tie.spec slice-aggregate-put-number put-number-requires returns)
+refusal-line-spec = tie.close (tie.spec (λ c. search needs) (λ c κs. search needs) returns)

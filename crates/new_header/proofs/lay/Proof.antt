@@ -7,16 +7,10 @@ use Rattle.new_header.proofs.LengthLaws.{lengths-right}
 use Rattle.new_header.proofs.lay.Statement.{statement}
 use Rattle.new_header.proofs.lay.Tie as tie
 
-lengths-fit-requires : tie.Need-lengths-fit-requires
-lengths-fit-requires c κs = search needs
-
 fill-requires : tie.Need-fill-requires
 fill-requires c κs =
     let fit = c .before in
     lengths-right _ _ _ (sym (fit .before .lengths-fit .ensures) ∙ fit .if1 .taken)
-
-same-length : tie.Need-same-length
-same-length c = search needs
 
 returns : tie.Need-returns
 unfolding headerOver
@@ -30,11 +24,4 @@ unfolding headerOver
 returns-2 c = rw (sym (c .before .lengths-fit .ensures) ∙ c .if1 .left) refl
 
 pub lay-spec : {M : Type 1} → statement M
-lay-spec =
-    tie.close
-    (tie.spec
-    lengths-fit-requires
-    fill-requires
-    same-length
-    returns
-    returns-2)
+lay-spec = tie.close (tie.spec (λ c κs. search needs) fill-requires (λ c. search needs) returns returns-2)

@@ -6,9 +6,6 @@ use Rattle.new_header.specs.NewHeader.{newFields}
 use Rattle.new_header.proofs.new_fields.Statement.{statement}
 use Rattle.new_header.proofs.new_fields.Tie as tie
 
-hidden-size-requires : tie.Need-hidden-size-requires
-hidden-size-requires c κs = search needs
-
 returns : tie.Need-returns
 unfolding newFields
 returns c =
@@ -26,4 +23,4 @@ returns c =
     }
 
 pub new-fields-spec : {M : Type 1} → statement M
-new-fields-spec = tie.close (tie.spec hidden-size-requires returns)
+new-fields-spec = tie.close (tie.spec (λ c κs. search needs) returns)

@@ -11,21 +11,6 @@ use Rattle.new_header.specs.NewHeader.{summed}
 use Rattle.new_header.proofs.put_checksum.Statement.{statement}
 use Rattle.new_header.proofs.put_checksum.Tie as tie
 
-field-bytes-requires : tie.Need-field-bytes-requires
-field-bytes-requires c κs = search needs
-
-checksum-requires : tie.Need-checksum-requires
-checksum-requires c κs = search needs
-
-cast-put-number : tie.Need-cast-put-number
-cast-put-number c = search needs
-
-put-number-requires : tie.Need-put-number-requires
-put-number-requires c κs = search needs
-
-same-length : tie.Need-same-length
-same-length c = search needs
-
 returns : tie.Need-returns
 unfolding summed
 returns c =
@@ -42,9 +27,5 @@ pub put-checksum-spec : {M : Type 1} → statement M
 put-checksum-spec =
     tie.close
     (tie.spec
-    field-bytes-requires
-    checksum-requires
-    cast-put-number
-    put-number-requires
-    same-length
+    (λ c κs. search needs) (λ c κs. search needs) (λ c. search needs) (λ c κs. search needs) (λ c. search needs)
     returns)

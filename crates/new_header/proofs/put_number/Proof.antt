@@ -11,24 +11,6 @@ use Rattle.numbers.proofs.WrittenLaws.{big-endian-bytes-length}
 use Rattle.new_header.proofs.put_number.Statement.{statement}
 use Rattle.new_header.proofs.put_number.Tie as tie
 
-add-end : tie.Need-add-end
-add-end c = search needs
-
-sub-write-big-endian : tie.Need-sub-write-big-endian
-sub-write-big-endian c = search needs
-
-part-write-big-endian-start : tie.Need-part-write-big-endian-start
-part-write-big-endian-start c = search needs
-
-part-write-big-endian-end : tie.Need-part-write-big-endian-end
-part-write-big-endian-end c = search needs
-
-write-big-endian-requires : tie.Need-write-big-endian-requires
-write-big-endian-requires c κs = search needs
-
-same-length : tie.Need-same-length
-same-length c = search needs
-
 returns : tie.Need-returns
 returns c =
     let written = c .before .before in
@@ -43,10 +25,5 @@ pub put-number-spec : {M : Type 1} → statement M
 put-number-spec =
     tie.close
     (tie.spec
-    add-end
-    sub-write-big-endian
-    part-write-big-endian-start
-    part-write-big-endian-end
-    write-big-endian-requires
-    same-length
-    returns)
+    (λ c. search needs) (λ c. search needs) (λ c. search needs) (λ c. search needs) (λ c κs. search needs)
+    (λ c. search needs) returns)

@@ -11,33 +11,6 @@ use Rattle.new_header.specs.NewHeader.{numberContents, laid}
 use Rattle.new_header.proofs.put_numbers.Statement.{statement}
 use Rattle.new_header.proofs.put_numbers.Tie as tie
 
-put-number-requires : tie.Need-put-number-requires
-put-number-requires c κs = search needs
-
-put-number-requires-2 : tie.Need-put-number-requires-2
-put-number-requires-2 c κs = search needs
-
-put-number-requires-3 : tie.Need-put-number-requires-3
-put-number-requires-3 c κs = search needs
-
-put-number-requires-4 : tie.Need-put-number-requires-4
-put-number-requires-4 c κs = search needs
-
-put-number-requires-5 : tie.Need-put-number-requires-5
-put-number-requires-5 c κs = search needs
-
-put-number-requires-6 : tie.Need-put-number-requires-6
-put-number-requires-6 c κs = search needs
-
-put-number-requires-7 : tie.Need-put-number-requires-7
-put-number-requires-7 c κs = search needs
-
-put-number-requires-8 : tie.Need-put-number-requires-8
-put-number-requires-8 c κs = search needs
-
-same-length : tie.Need-same-length
-same-length c = search needs
-
 -- one number more, laid over what the numbers before it have left
 over : {bytes before after : List ℕ} (field : Field) (number : ℕ) → after ≡ overlay (field .offset) (bigEndianBytes (field .size) number) before
     → before ≡ bytes → after ≡ overlay (field .offset) (bigEndianBytes (field .size) number) bytes
@@ -68,13 +41,5 @@ pub put-numbers-spec : {M : Type 1} → statement M
 put-numbers-spec =
     tie.close
     (tie.spec
-    put-number-requires
-    put-number-requires-2
-    put-number-requires-3
-    put-number-requires-4
-    put-number-requires-5
-    put-number-requires-6
-    put-number-requires-7
-    put-number-requires-8
-    same-length
-    returns)
+    (λ c κs. search needs) (λ c κs. search needs) (λ c κs. search needs) (λ c κs. search needs) (λ c κs. search needs)
+    (λ c κs. search needs) (λ c κs. search needs) (λ c κs. search needs) (λ c. search needs) returns)

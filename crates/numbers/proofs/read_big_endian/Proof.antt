@@ -26,9 +26,6 @@ mul-number c = omega arith
 shared-slice-read-wide : tie.Need-shared-slice-read-wide Inv-loop μ-loop
 shared-slice-read-wide c = omega arith
 
-wide-requires : tie.Need-wide-requires Inv-loop μ-loop
-wide-requires c κs = search needs
-
 add-number : tie.Need-add-number Inv-loop μ-loop
 add-number c = omega (arith, c .before .shared-slice-known2 .given (c .before .before .before .loop .i))
 
@@ -55,14 +52,5 @@ pub read-big-endian-spec : {M : Type 1} → statement M
 read-big-endian-spec =
     tie.close
     (tie.spec
-    Inv-loop
-    μ-loop
-    loop-holds
-    mul-number
-    shared-slice-read-wide
-    wide-requires
-    add-number
-    add-i
-    loop-less
-    loop-again
-    returns)
+    Inv-loop μ-loop loop-holds mul-number shared-slice-read-wide (λ c κs. search needs) add-number add-i loop-less
+    loop-again returns)

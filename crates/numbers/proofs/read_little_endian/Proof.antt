@@ -29,9 +29,6 @@ mul-number c = omega arith
 shared-slice-read-wide : tie.Need-shared-slice-read-wide Inv-loop μ-loop
 shared-slice-read-wide c = omega arith
 
-wide-requires : tie.Need-wide-requires Inv-loop μ-loop
-wide-requires c κs = search needs
-
 add-number : tie.Need-add-number Inv-loop μ-loop
 add-number c = omega (arith, c .before .shared-slice-known2 .given (c .before .before .before .loop .left - 1))
 
@@ -57,14 +54,5 @@ pub read-little-endian-spec : {M : Type 1} → statement M
 read-little-endian-spec =
     tie.close
     (tie.spec
-    Inv-loop
-    μ-loop
-    loop-holds
-    sub-left
-    mul-number
-    shared-slice-read-wide
-    wide-requires
-    add-number
-    loop-less
-    loop-again
-    returns)
+    Inv-loop μ-loop loop-holds sub-left mul-number shared-slice-read-wide (λ c κs. search needs) add-number loop-less
+    loop-again returns)

@@ -4,11 +4,8 @@ use borrow.Author.Needs.{needs}
 use Rattle.ondristela.proofs.ondristela_decipher.Statement.{statement}
 use Rattle.ondristela.proofs.ondristela_decipher.Tie as tie
 
-decipher-requires : tie.Need-decipher-requires
-decipher-requires c κs = search needs
-
 returns : tie.Need-returns
 returns c = c .decipher .ensures
 
 pub ondristela-decipher-spec : {M : Type 1} → statement M
-ondristela-decipher-spec = tie.close (tie.spec decipher-requires returns)
+ondristela-decipher-spec = tie.close (tie.spec (λ c κs. search needs) returns)

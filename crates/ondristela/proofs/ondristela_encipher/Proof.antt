@@ -4,11 +4,8 @@ use borrow.Author.Needs.{needs}
 use Rattle.ondristela.proofs.ondristela_encipher.Statement.{statement}
 use Rattle.ondristela.proofs.ondristela_encipher.Tie as tie
 
-encipher-requires : tie.Need-encipher-requires
-encipher-requires c κs = search needs
-
 returns : tie.Need-returns
 returns c = c .encipher .ensures
 
 pub ondristela-encipher-spec : {M : Type 1} → statement M
-ondristela-encipher-spec = tie.close (tie.spec encipher-requires returns)
+ondristela-encipher-spec = tie.close (tie.spec (λ c κs. search needs) returns)

@@ -4,11 +4,8 @@ use borrow.Author.Needs.{needs}
 use Rattle.ondristela.proofs.ondristela_host_sector.Statement.{statement}
 use Rattle.ondristela.proofs.ondristela_host_sector.Tie as tie
 
-host-sector-requires : tie.Need-host-sector-requires
-host-sector-requires c κs = search needs
-
 returns : tie.Need-returns
 returns c = c .host-sector .ensures
 
 pub ondristela-host-sector-spec : {M : Type 1} → statement M
-ondristela-host-sector-spec = tie.close (tie.spec host-sector-requires returns)
+ondristela-host-sector-spec = tie.close (tie.spec (λ c κs. search needs) returns)

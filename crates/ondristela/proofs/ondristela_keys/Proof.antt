@@ -4,11 +4,8 @@ use borrow.Author.Needs.{needs}
 use Rattle.ondristela.proofs.ondristela_keys.Statement.{statement}
 use Rattle.ondristela.proofs.ondristela_keys.Tie as tie
 
-keys-requires : tie.Need-keys-requires
-keys-requires c κs = search needs
-
 returns : tie.Need-returns
 returns c = c .keys .ensures
 
 pub ondristela-keys-spec : {M : Type 1} → statement M
-ondristela-keys-spec = tie.close (tie.spec keys-requires returns)
+ondristela-keys-spec = tie.close (tie.spec (λ c κs. search needs) returns)

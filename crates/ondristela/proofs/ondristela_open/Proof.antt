@@ -4,11 +4,8 @@ use borrow.Author.Needs.{needs}
 use Rattle.ondristela.proofs.ondristela_open.Statement.{statement}
 use Rattle.ondristela.proofs.ondristela_open.Tie as tie
 
-open-requires : tie.Need-open-requires
-open-requires c κs = search needs
-
 returns : tie.Need-returns
 returns c = c .«open» .ensures
 
 pub ondristela-open-spec : {M : Type 1} → statement M
-ondristela-open-spec = tie.close (tie.spec open-requires returns)
+ondristela-open-spec = tie.close (tie.spec (λ c κs. search needs) returns)

@@ -4,11 +4,8 @@ use borrow.Author.Needs.{needs}
 use Rattle.ondristela.proofs.ondristela_read_extent.Statement.{statement}
 use Rattle.ondristela.proofs.ondristela_read_extent.Tie as tie
 
-read-extent-requires : tie.Need-read-extent-requires
-read-extent-requires c κs = search needs
-
 returns : tie.Need-returns
 returns c = c .read-extent .ensures
 
 pub ondristela-read-extent-spec : {M : Type 1} → statement M
-ondristela-read-extent-spec = tie.close (tie.spec read-extent-requires returns)
+ondristela-read-extent-spec = tie.close (tie.spec (λ c κs. search needs) returns)

@@ -4,11 +4,8 @@ use borrow.Author.Needs.{needs}
 use Rattle.ondristela.proofs.ondristela_view_protected.Statement.{statement}
 use Rattle.ondristela.proofs.ondristela_view_protected.Tie as tie
 
-protected-requires : tie.Need-protected-requires
-protected-requires c κs = search needs
-
 returns : tie.Need-returns
 returns c = c .protected .ensures
 
 pub ondristela-view-protected-spec : {M : Type 1} → statement M
-ondristela-view-protected-spec = tie.close (tie.spec protected-requires returns)
+ondristela-view-protected-spec = tie.close (tie.spec (λ c κs. search needs) returns)

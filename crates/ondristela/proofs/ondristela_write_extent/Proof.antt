@@ -4,11 +4,8 @@ use borrow.Author.Needs.{needs}
 use Rattle.ondristela.proofs.ondristela_write_extent.Statement.{statement}
 use Rattle.ondristela.proofs.ondristela_write_extent.Tie as tie
 
-write-extent-requires : tie.Need-write-extent-requires
-write-extent-requires c κs = search needs
-
 returns : tie.Need-returns
 returns c = c .write-extent .ensures
 
 pub ondristela-write-extent-spec : {M : Type 1} → statement M
-ondristela-write-extent-spec = tie.close (tie.spec write-extent-requires returns)
+ondristela-write-extent-spec = tie.close (tie.spec (λ c κs. search needs) returns)

@@ -4,14 +4,8 @@ use borrow.Author.Needs.{needs}
 use Rattle.ondristela.proofs.ondristela_write_header.Statement.{statement}
 use Rattle.ondristela.proofs.ondristela_write_header.Tie as tie
 
-write-header-requires : tie.Need-write-header-requires
-write-header-requires c κs = search needs
-
-same-length : tie.Need-same-length
-same-length c = search needs
-
 returns : tie.Need-returns
 returns c = c .before .before .write-header .ensures
 
 pub ondristela-write-header-spec : {M : Type 1} → statement M
-ondristela-write-header-spec = tie.close (tie.spec write-header-requires same-length returns)
+ondristela-write-header-spec = tie.close (tie.spec (λ c κs. search needs) (λ c. search needs) returns)

@@ -4,14 +4,8 @@ use borrow.Author.Needs.{needs}
 use Rattle.ondristela.proofs.ondristela_write_plaintext.Statement.{statement}
 use Rattle.ondristela.proofs.ondristela_write_plaintext.Tie as tie
 
-write-requires : tie.Need-write-requires
-write-requires c κs = search needs
-
-same-length : tie.Need-same-length
-same-length c = search needs
-
 returns : tie.Need-returns
 returns c = c .before .before .write .ensures
 
 pub ondristela-write-plaintext-spec : {M : Type 1} → statement M
-ondristela-write-plaintext-spec = tie.close (tie.spec write-requires same-length returns)
+ondristela-write-plaintext-spec = tie.close (tie.spec (λ c κs. search needs) (λ c. search needs) returns)

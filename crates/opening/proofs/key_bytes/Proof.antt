@@ -32,18 +32,6 @@ inside c =
     let args = opened-here .before .before .before .args in
     opened-inside (now (args .candidates)) (args .host-size) (c .before .answer .given .0 .0) (now (args .codes)) (accepted c)
 
-open-requires : tie.Need-open-requires
-open-requires c κs = search needs
-
-enum-known-answer : tie.Need-enum-known-answer
-enum-known-answer c = search needs
-
-enum-told : tie.Need-enum-told
-enum-told c = search needs
-
-slice-aggregate-result : tie.Need-slice-aggregate-result
-slice-aggregate-result c = search needs
-
 returns : tie.Need-returns
 unfolding keysOffset keysSize
 returns c =
@@ -61,12 +49,6 @@ add-keys c = record { fits = omega (arith, inside c .0, inside c .1) }
 add-result : tie.Need-add-result
 add-result c = record { fits = omega (arith, inside c .0, inside c .1) }
 
-sub-result : tie.Need-sub-result
-sub-result c = search needs
-
-part-result-start : tie.Need-part-result-start
-part-result-start c = search needs
-
 part-result-end : tie.Need-part-result-end
 part-result-end c = omega (arith, inside c .0, inside c .1)
 
@@ -78,15 +60,5 @@ pub key-bytes-spec : {M : Type 1} → statement M
 key-bytes-spec =
     tie.close
     (tie.spec
-    open-requires
-    enum-known-answer
-    enum-told
-    slice-aggregate-result
-    returns
-    mul-keys
-    add-keys
-    add-result
-    sub-result
-    part-result-start
-    part-result-end
-    returns-2)
+    (λ c κs. search needs) (λ c. search needs) (λ c. search needs) (λ c. search needs) returns mul-keys add-keys
+    add-result (λ c. search needs) (λ c. search needs) part-result-end returns-2)

@@ -14,12 +14,9 @@ returns-2 : tie.Need-returns-2
 unfolding lengthsRule
 returns-2 c = simp (le-leb _ _ (c .before .if1 .left), lt-leb _ _ (c .if2 .taken))
 
-mul-result : tie.Need-mul-result
-mul-result c = search needs
-
 returns-3 : tie.Need-returns-3
 unfolding lengthsRule
 returns-3 c = simp (le-leb _ _ (c .before .if1 .left), le-leb _ _ (c .if2 .left))
 
 pub lengths-agree-spec : {M : Type 1} → statement M
-lengths-agree-spec = tie.close (tie.spec returns returns-2 mul-result returns-3)
+lengths-agree-spec = tie.close (tie.spec returns returns-2 (λ c. search needs) returns-3)

@@ -22,22 +22,13 @@ codes-kept : (c : tie.Else2)
     codesRule (now (tested .before .before .args .codes)) ≡ true
 codes-kept c = sym (c .before .codes-known .ensures) ∙ not-false _ (c .if2 .left)
 
-lengths-agree-requires : tie.Need-lengths-agree-requires
-lengths-agree-requires c κs = search needs
-
 returns : tie.Need-returns
 unfolding opened
 returns c = simp (sym (c .before .lengths-agree .ensures) ∙ not-true _ (c .if1 .taken))
 
-codes-known-requires : tie.Need-codes-known-requires
-codes-known-requires c κs = search needs
-
 returns-2 : tie.Need-returns-2
 unfolding opened
 returns-2 c = simp (lengths-kept (c .before .before), sym (c .before .codes-known .ensures) ∙ not-true _ (c .if2 .taken))
-
-is-host-size-requires : tie.Need-is-host-size-requires
-is-host-size-requires c κs = search needs
 
 returns-3 : tie.Need-returns-3
 unfolding opened
@@ -66,11 +57,5 @@ pub open-spec : {M : Type 1} → statement M
 open-spec =
     tie.close
     (tie.spec
-    lengths-agree-requires
-    returns
-    codes-known-requires
-    returns-2
-    is-host-size-requires
-    returns-3
-    search-in-order-requires
-    returns-4)
+    (λ c κs. search needs) returns (λ c κs. search needs) returns-2 (λ c κs. search needs) returns-3
+    search-in-order-requires returns-4)

@@ -62,39 +62,6 @@ mul-entry c = record { fits = omega (arith, code-known c) }
 array-copy-out-entry : tie.Need-array-copy-out-entry Inv-loop μ-loop
 array-copy-out-entry c = omega (arith, code-known c)
 
-mul-start : tie.Need-mul-start Inv-loop μ-loop
-mul-start c = search needs
-
-add-judge : tie.Need-add-judge Inv-loop μ-loop
-add-judge c = search needs
-
-sub-judge : tie.Need-sub-judge Inv-loop μ-loop
-sub-judge c = search needs
-
-part-judge-start : tie.Need-part-judge-start Inv-loop μ-loop
-part-judge-start c = search needs
-
-part-judge-end : tie.Need-part-judge-end Inv-loop μ-loop
-part-judge-end c = search needs
-
-judge-requires : tie.Need-judge-requires Inv-loop μ-loop
-judge-requires c κs = search needs
-
-enum-known-judged : tie.Need-enum-known-judged Inv-loop μ-loop
-enum-known-judged c = search needs
-
-enum-known-judged-2 : tie.Need-enum-known-judged-2 Inv-loop μ-loop
-enum-known-judged-2 c = search needs
-
-first-refusal-requires : tie.Need-first-refusal-requires Inv-loop μ-loop
-first-refusal-requires c κs = search needs
-
-add-index : tie.Need-add-index Inv-loop μ-loop
-add-index c = search needs
-
-loop-less : tie.Need-loop-less Inv-loop μ-loop
-loop-less c = search needs
-
 loop-again : tie.Need-loop-again Inv-loop μ-loop
 loop-again c =
     let refused = c .before .before in
@@ -123,24 +90,7 @@ pub search-in-order-spec : {M : Type 1} → statement M
 search-in-order-spec =
     tie.close
     (tie.spec
-    Inv-loop
-    μ-loop
-    loop-holds
-    shared-slice-read-code
-    cast-code
-    mul-entry
-    array-copy-out-entry
-    mul-start
-    add-judge
-    sub-judge
-    part-judge-start
-    part-judge-end
-    judge-requires
-    enum-known-judged
-    enum-known-judged-2
-    first-refusal-requires
-    add-index
-    loop-less
-    loop-again
-    returns
-    returns-2)
+    Inv-loop μ-loop loop-holds shared-slice-read-code cast-code mul-entry array-copy-out-entry (λ c. search needs)
+    (λ c. search needs) (λ c. search needs) (λ c. search needs) (λ c. search needs) (λ c κs. search needs)
+    (λ c. search needs) (λ c. search needs) (λ c κs. search needs) (λ c. search needs) (λ c. search needs) loop-again
+    returns returns-2)

@@ -15,22 +15,13 @@ outer-sound c = sym (c .before .is-sound .ensures) ∙ not-false _ (c .if1 .left
 hidden-sound : (c : tie.Else2) → let one = c .before .before in sound (one .before .before .args .hidden) ≡ true
 hidden-sound c = sym (c .before .is-sound2 .ensures) ∙ not-false _ (c .if2 .left)
 
-is-sound-requires : tie.Need-is-sound-requires
-is-sound-requires c κs = search needs
-
 returns : tie.Need-returns
 unfolding paired
 returns c = simp (sym (c .before .is-sound .ensures) ∙ not-true _ (c .if1 .taken))
 
-is-sound-requires-2 : tie.Need-is-sound-requires-2
-is-sound-requires-2 c κs = search needs
-
 returns-2 : tie.Need-returns-2
 unfolding paired
 returns-2 c = simp (outer-sound (c .before .before), sym (c .before .is-sound2 .ensures) ∙ not-true _ (c .if2 .taken))
-
-do-nest-requires : tie.Need-do-nest-requires
-do-nest-requires c κs = search needs
 
 returns-3 : tie.Need-returns-3
 unfolding paired
@@ -48,10 +39,4 @@ pub check-pair-spec : {M : Type 1} → statement M
 check-pair-spec =
     tie.close
     (tie.spec
-    is-sound-requires
-    returns
-    is-sound-requires-2
-    returns-2
-    do-nest-requires
-    returns-3
-    returns-4)
+    (λ c κs. search needs) returns (λ c κs. search needs) returns-2 (λ c κs. search needs) returns-3 returns-4)

@@ -59,9 +59,6 @@ returns-5 c =
     let one = one-disk (c .before .before .before) in
     simp (one .0, one .1, one .2, one .3, lt-leb _ _ (c .if5 .taken))
 
-fits-requires : tie.Need-fits-requires
-fits-requires c κs = search needs
-
 returns-6 : tie.Need-returns-6
 unfolding nests areaEnd
 returns-6 c =
@@ -71,4 +68,4 @@ returns-6 c =
     (c .fits2 .ensures ∙ leb-sub-add _ _ _ _ (five .if5 .left))
 
 pub do-nest-spec : {M : Type 1} → statement M
-do-nest-spec = tie.close (tie.spec returns returns-2 returns-3 returns-4 returns-5 fits-requires returns-6)
+do-nest-spec = tie.close (tie.spec returns returns-2 returns-3 returns-4 returns-5 (λ c κs. search needs) returns-6)

@@ -37,9 +37,6 @@ returns-5 c =
       lt-leb _ _ (c .if5 .taken),
     )
 
-sub-result : tie.Need-sub-result
-sub-result c = search needs
-
 returns-6 : tie.Need-returns-6
 returns-6 c =
     let five = c .before .before in
@@ -48,4 +45,4 @@ returns-6 c =
     range-by-end _ _ _ (two .before .if1 .left) (two .if2 .left) (four .before .if3 .left) (four .if4 .left) (five .if5 .left)
 
 pub is-range-spec : {M : Type 1} → statement M
-is-range-spec = tie.close (tie.spec returns returns-2 returns-3 returns-4 returns-5 sub-result returns-6)
+is-range-spec = tie.close (tie.spec returns returns-2 returns-3 returns-4 returns-5 (λ c. search needs) returns-6)

@@ -7,21 +7,9 @@ use Rattle.protection.specs.Protection.{soundProtection, protectionRule}
 use Rattle.protection.proofs.is_sound.Statement.{statement}
 use Rattle.protection.proofs.is_sound.Tie as tie
 
-is-sound-requires : tie.Need-is-sound-requires
-is-sound-requires c κs = search needs
-
 returns : tie.Need-returns
 unfolding soundProtection
 returns c = simp (sym (c .before .is-sound .ensures) ∙ not-true _ (c .if1 .taken))
-
-enum-told : tie.Need-enum-told
-enum-told c = search needs
-
-enum-known-protection : tie.Need-enum-known-protection
-enum-known-protection c = search needs
-
-is-range-requires : tie.Need-is-range-requires
-is-range-requires c κs = search needs
 
 returns-2 : tie.Need-returns-2
 unfolding soundProtection protectionRule
@@ -40,10 +28,4 @@ pub is-sound-spec : {M : Type 1} → statement M
 is-sound-spec =
     tie.close
     (tie.spec
-    is-sound-requires
-    returns
-    enum-told
-    enum-known-protection
-    is-range-requires
-    returns-2
-    returns-3)
+    (λ c κs. search needs) returns (λ c. search needs) (λ c. search needs) (λ c κs. search needs) returns-2 returns-3)

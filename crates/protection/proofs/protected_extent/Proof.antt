@@ -5,18 +5,6 @@ use Rattle.protection.specs.Protection.{protectedExtent}
 use Rattle.protection.proofs.protected_extent.Statement.{statement}
 use Rattle.protection.proofs.protected_extent.Tie as tie
 
-enum-told : tie.Need-enum-told
-enum-told c = search needs
-
-enum-known-protection : tie.Need-enum-known-protection
-enum-known-protection c = search needs
-
-less-requires : tie.Need-less-requires
-less-requires c κs = search needs
-
-less-requires-2 : tie.Need-less-requires-2
-less-requires-2 c κs = search needs
-
 returns : tie.Need-returns
 unfolding protectedExtent
 returns c = simp (c .enum-told .given .1)
@@ -29,4 +17,6 @@ returns-2 c =
 
 pub protected-extent-spec : {M : Type 1} → statement M
 protected-extent-spec =
-    tie.close (tie.spec enum-told enum-known-protection less-requires less-requires-2 returns returns-2)
+    tie.close
+    (tie.spec
+    (λ c. search needs) (λ c. search needs) (λ c κs. search needs) (λ c κs. search needs) returns returns-2)

@@ -7,9 +7,6 @@ use borrow.Author.Needs.{needs}
 use Rattle.sector_map.proofs.host_sector.Statement.{statement}
 use Rattle.sector_map.proofs.host_sector.Tie as tie
 
-is-sound-requires : tie.Need-is-sound-requires
-is-sound-requires c κs = search needs
-
 returns : tie.Need-returns
 unfolding hostSector sectors firstSector
 returns c = simp (sym (c .before .is-sound .ensures) ∙ not-true _ (c .if1 .taken))
@@ -20,9 +17,6 @@ returns-2 c =
     let kept = c .before .before in
     simp (sym (kept .before .is-sound .ensures) ∙ not-false _ (kept .if1 .left), le-ltb _ _ (c .if2 .taken))
 
-add-t6 : tie.Need-add-t6
-add-t6 c = search needs
-
 returns-3 : tie.Need-returns-3
 unfolding hostSector sectors firstSector
 returns-3 c =
@@ -30,4 +24,4 @@ returns-3 c =
     simp (sym (kept .before .is-sound .ensures) ∙ not-false _ (kept .if1 .left), lt-ltb _ _ (c .before .if2 .left))
 
 pub host-sector-spec : {M : Type 1} → statement M
-host-sector-spec = tie.close (tie.spec is-sound-requires returns returns-2 add-t6 returns-3)
+host-sector-spec = tie.close (tie.spec (λ c κs. search needs) returns returns-2 (λ c. search needs) returns-3)

@@ -7,9 +7,6 @@ use borrow.Author.Needs.{needs}
 use Rattle.sector_map.proofs.sector_count.Statement.{statement}
 use Rattle.sector_map.proofs.sector_count.Tie as tie
 
-is-sound-requires : tie.Need-is-sound-requires
-is-sound-requires c κs = search needs
-
 returns : tie.Need-returns
 unfolding sectorCount
 returns c = simp (sym (c .before .is-sound .ensures) ∙ not-true _ (c .if1 .taken))
@@ -19,4 +16,4 @@ unfolding sectorCount sectors
 returns-2 c = simp (sym (c .before .before .is-sound .ensures) ∙ not-false _ (c .before .if1 .left))
 
 pub sector-count-spec : {M : Type 1} → statement M
-sector-count-spec = tie.close (tie.spec is-sound-requires returns returns-2)
+sector-count-spec = tie.close (tie.spec (λ c κs. search needs) returns returns-2)

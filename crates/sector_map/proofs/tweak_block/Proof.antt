@@ -14,21 +14,6 @@ use Rattle.sector_map.proofs.tweak_block.Tie as tie
 abbrev tweak : Numbered → List ℕ → Tweak
 tweak number block = record { number = number; block = block }
 
-tweak-number-requires : tie.Need-tweak-number-requires
-tweak-number-requires c κs = search needs
-
-enum-known-number : tie.Need-enum-known-number
-enum-known-number c = search needs
-
-slice-aggregate-write-little-endian : tie.Need-slice-aggregate-write-little-endian
-slice-aggregate-write-little-endian c = search needs
-
-write-little-endian-requires : tie.Need-write-little-endian-requires
-write-little-endian-requires c κs = search needs
-
-enum-told : tie.Need-enum-told
-enum-told c = search needs
-
 returns : tie.Need-returns
 unfolding tweakOf blockOf
 returns c =
@@ -49,10 +34,5 @@ pub tweak-block-spec : {M : Type 1} → statement M
 tweak-block-spec =
     tie.close
     (tie.spec
-    tweak-number-requires
-    enum-known-number
-    slice-aggregate-write-little-endian
-    write-little-endian-requires
-    enum-told
-    returns
+    (λ c κs. search needs) (λ c. search needs) (λ c. search needs) (λ c κs. search needs) (λ c. search needs) returns
     returns-2)

@@ -5,12 +5,9 @@ use borrow.Author.Needs.{needs}
 use Rattle.sector_map.proofs.tweak_number.Statement.{statement}
 use Rattle.sector_map.proofs.tweak_number.Tie as tie
 
-host-sector-requires : tie.Need-host-sector-requires
-host-sector-requires c κs = search needs
-
 returns : tie.Need-returns
 unfolding tweakNumber
 returns c = c .host-sector .ensures
 
 pub tweak-number-spec : {M : Type 1} → statement M
-tweak-number-spec = tie.close (tie.spec host-sector-requires returns)
+tweak-number-spec = tie.close (tie.spec (λ c κs. search needs) returns)

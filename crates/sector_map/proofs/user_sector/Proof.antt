@@ -9,9 +9,6 @@ use borrow.Author.Needs.{needs}
 use Rattle.sector_map.proofs.user_sector.Statement.{statement}
 use Rattle.sector_map.proofs.user_sector.Tie as tie
 
-is-sound-requires : tie.Need-is-sound-requires
-is-sound-requires c κs = search needs
-
 returns : tie.Need-returns
 unfolding userSector sectors firstSector
 returns c = simp (sym (c .before .is-sound .ensures) ∙ not-true _ (c .if1 .taken))
@@ -41,4 +38,4 @@ returns-4 c =
     simp (sym (kept .before .is-sound .ensures) ∙ not-false _ (kept .if1 .left), le-leb _ _ (late .if2 .left), lt-ltb _ _ inside)
 
 pub user-sector-spec : {M : Type 1} → statement M
-user-sector-spec = tie.close (tie.spec is-sound-requires returns returns-2 returns-3 returns-4)
+user-sector-spec = tie.close (tie.spec (λ c κs. search needs) returns returns-2 returns-3 returns-4)

@@ -5,16 +5,10 @@ use Rattle.view.proofs.OutcomeLaws.{read-post}
 use Rattle.view.proofs.View.read.Statement.{statement}
 use Rattle.view.proofs.View.read.Tie as tie
 
-read-requires : tie.Need-read-requires
-read-requires c κs = search needs
-
-same-length : tie.Need-same-length
-same-length c = search needs
-
 returns : tie.Need-returns
 returns c =
     let read = c .before .before .read in
     read-post _ _ _ _ _ _ _ (read .ensures .0) (read .ensures .1)
 
 pub read-spec : {M : Type 1} → statement M
-read-spec = tie.close (tie.spec read-requires same-length returns)
+read-spec = tie.close (tie.spec (λ c κs. search needs) (λ c. search needs) returns)

@@ -6,12 +6,9 @@ use Rattle.view.specs.Outcomes.{readPlaced}
 use Rattle.view.proofs.View.read_extent.Statement.{statement}
 use Rattle.view.proofs.View.read_extent.Tie as tie
 
-read-extent-requires : tie.Need-read-extent-requires
-read-extent-requires c κs = search needs
-
 returns : tie.Need-returns
 unfolding readPlaced
 returns c = rw (c .read-extent .ensures) refl
 
 pub read-extent-spec : {M : Type 1} → statement M
-read-extent-spec = tie.close (tie.spec read-extent-requires returns)
+read-extent-spec = tie.close (tie.spec (λ c κs. search needs) returns)

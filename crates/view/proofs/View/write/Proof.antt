@@ -7,18 +7,6 @@ use Rattle.view.proofs.OutcomeLaws.{write-post}
 use Rattle.view.proofs.View.write.Statement.{statement}
 use Rattle.view.proofs.View.write.Tie as tie
 
-write-requires : tie.Need-write-requires
-write-requires c κs = search needs
-
-refusal-requires : tie.Need-refusal-requires
-refusal-requires c κs = search needs
-
-locked-after-requires : tie.Need-locked-after-requires
-locked-after-requires c κs = search needs
-
-same-length : tie.Need-same-length
-same-length c = search needs
-
 returns : tie.Need-returns
 returns c =
     let answered = c .before in
@@ -27,4 +15,4 @@ returns c =
     write-post _ _ _ _ _ _ _ _ (write .ensures .0) (write .ensures .1) locks
 
 pub write-spec : {M : Type 1} → statement M
-write-spec = tie.close (tie.spec write-requires refusal-requires locked-after-requires same-length returns)
+write-spec = tie.close (tie.spec (λ c κs. search needs) (λ c κs. search needs) (λ c κs. search needs) (λ c. search needs) returns)

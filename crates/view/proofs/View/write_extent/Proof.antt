@@ -8,15 +8,6 @@ use Rattle.view.specs.Outcomes.{after, writePlaced}
 use Rattle.view.proofs.View.write_extent.Statement.{statement}
 use Rattle.view.proofs.View.write_extent.Tie as tie
 
-write-extent-requires : tie.Need-write-extent-requires
-write-extent-requires c κs = search needs
-
-placement-refusal-requires : tie.Need-placement-refusal-requires
-placement-refusal-requires c κs = search needs
-
-locked-after-requires : tie.Need-locked-after-requires
-locked-after-requires c κs = search needs
-
 returns : tie.Need-returns
 unfolding writePlaced after
 returns c =
@@ -26,4 +17,4 @@ returns c =
     rw (c .locked-after .ensures, same, placed .write-extent .ensures) refl
 
 pub write-extent-spec : {M : Type 1} → statement M
-write-extent-spec = tie.close (tie.spec write-extent-requires placement-refusal-requires locked-after-requires returns)
+write-extent-spec = tie.close (tie.spec (λ c κs. search needs) (λ c κs. search needs) (λ c κs. search needs) returns)
