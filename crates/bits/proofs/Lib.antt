@@ -1,4 +1,5 @@
-pub mod EntriesLaws
-pub mod XorLaws
 pub mod BytesLaws
+pub mod CaseLaws
+pub mod EntriesLaws
 pub mod TestLaws
+pub mod XorLaws

@@ -1,22 +1,10 @@
 -- The worked cases hold: antt computes both sides.
 -- Assumes nothing.
-use Prim.Native.Nat.{ℕ}
-use mathlib.Core.{Path.{_≡_, refl, sym, _∙_}, List.{List, _++_, map, map-append}}
-use Rattle.numbers.specs.Numbers.{bigEndian, bigEndianFrom, bigEndianBytes, littleEndianBytes}
-use Rattle.bits.specs.Bits.{entries}
-use Rattle.aes_steps.specs.Field.{timesX, whereSet, productOf, product, squares, inverse}
-use Rattle.aes_steps.specs.SBox.{bit, byteOf, affine, substituted}
-use Rattle.aes_steps.specs.Blocks.{byteAt, word, eachByte, block, inFours, blockByte, bytesOf, subBytes, shiftRows, mixed, mixedWord, eachColumn, mixColumns, addRoundKey}
-use Rattle.aes_steps.specs.{KeyExpansion.{subWord, rotWord, addWord, powerOfX, roundConstant, turned, nextWord, grown, roundKeys}, Rounds.round}
-use Rattle.aes.specs.Cipher.{roundKey, rounds, cipher, throughCipher}
-use Rattle.xts.specs.Units.{tweakBytes, raised, alphaByte, timesAlpha, underTweak, blocksUnder, firstTweak, convertedBy, dataKeys, tweakKeys, converted}
-use Rattle.fields.specs.Bytes.{sameBytes, allZero}
-use Rattle.crc32.specs.Crc32.{crc32, crcFrom, bitSteps, bitStep}
+use mathlib.Core.{Path.{_≡_, refl}, List._++_}
+use Rattle.bits.specs.Cases.{Right}
+use Rattle.bits.proofs.CaseLaws.{join}
+use Rattle.numbers.specs.Numbers.{littleEndianBytes}
 use Rattle.layout.specs.Rules.{multiple, hostSizeRule, sectorSizeRule, placeRule, sectorsRule, dataAreaRule, sound}
-use Rattle.header.specs.Header.{magicNumber, magicOf, fieldsOf, checksumsMatch, isHeader, acceptedLayout, judge}
-use Rattle.header.specs.Header.{versionRule, reservedRule, flagsRule, hiddenSizeRule, areaRule}
-use Rattle.locations.specs.Locations.{locations, locationOf, codeRule}
-use Rattle.opening.specs.Opening.{lengthsRule, codesRule, candidateAt, judgements, further, searched, opened}
 use Rattle.sector_map.specs.SectorMap.{sectors, firstSector, hostSector, userSector, tweakNumber, blockOf, tweakOf}
 use Rattle.judgement.specs.Judging.{alignmentRule, blockedBy, endAnswer, checked, lockAnswer, readAnswer, writeAnswer, lockedAfter}
 use Rattle.answers.specs.Answers.{answerRefusal, answerSector}
@@ -27,34 +15,14 @@ use Rattle.making.specs.Views.{plainOf, protectedOf, madeBy, plainView, protect
 use Rattle.map_output.specs.Decimal.{digits, decimal}
 use Rattle.map_output.specs.MapOutput.{textLine, numberLine, eitherLine, magicLine, kindLine, headerLines, areaLines, sectorLines, lastSector, layoutLines}
 use Rattle.guarantees.specs.MapProgram.{letters}
-use Rattle.worked_cases.specs.WorkedCases.{outerTold, hiddenTold, fieldBytes, headerWith, toldOf, opens, opensM, volume, volumeM, volumeN, largeM}
-use Rattle.worked_cases.specs.WorkedCases.{mappedTold, tweakTold, sectorTold, onView, writingFrom, writing, reading, leaving}
-use Rattle.worked_cases.specs.WorkedCases.{Rows, openingCases, sectorSizeCases, mapCases, accessCases, publishedKey, cipherCases, cases, AsWorked}
-
--- each row is as the rules say
-abbrev Right : Rows → Type 0
-Right rows = map (λ row. row .0) rows ≡ map (λ row. row .1) rows
-
--- two parts of a table make one
-join : (a b : Rows) → Right a → Right b → Right (a ++ b)
-join a b f g = map-append (λ row. row .0) a b ∙ (λ i. f i ++ g i) ∙ sym (map-append (λ row. row .1) a b)
-
--- opening, with all that it goes by: where this is unfolded, opening is computed
-computed-opens : ℕ → ℕ → List ℕ → List ℕ
-unfolding opens opensM toldOf outerTold hiddenTold headerWith fieldBytes bigEndianBytes
-    opened lengthsRule codesRule codeRule hostSizeRule searched further judgements candidateAt locationOf locations
-    judge isHeader magicNumber magicOf fieldsOf checksumsMatch sameBytes allZero acceptedLayout
-    versionRule reservedRule flagsRule sectorSizeRule hiddenSizeRule areaRule dataAreaRule sectorsRule multiple placeRule
-    crc32 crcFrom bitStep bitSteps bigEndian bigEndianFrom
-computed-opens = opens
-
-opening-rows : Right openingCases
-unfolding openingCases computed-opens
-opening-rows = refl
-
-sector-size-rows : Right sectorSizeCases
-unfolding sectorSizeCases computed-opens
-sector-size-rows = refl
+use Rattle.worked_headers.specs.Openings.{openingCases}
+use Rattle.worked_headers.proofs.OpeningRows.{opening-rows}
+use Rattle.worked_sectors.specs.SectorSizes.{sectorSizeCases}
+use Rattle.worked_sectors.proofs.SectorSizeRows.{sector-size-rows}
+use Rattle.worked_cipher.specs.Units.{cipherCases}
+use Rattle.worked_cipher.proofs.UnitRows.{cipher-rows}
+use Rattle.worked_cases.specs.WorkedCases.{volume, volumeM, volumeN, largeM, mappedTold, tweakTold, sectorTold, onView, writingFrom, writing}
+use Rattle.worked_cases.specs.WorkedCases.{reading, leaving, mapCases, accessCases, cases, AsWorked}
 
 map-rows : Right mapCases
 unfolding mapCases volume volumeM volumeN mappedTold tweakTold hostSector userSector tweakNumber tweakOf blockOf sectors firstSector
@@ -67,13 +35,6 @@ unfolding accessCases volume volumeM volumeN largeM onView writingFrom writing r
     madeBy sectors blockedBy endAnswer alignmentRule checked lockAnswer readAnswer writeAnswer lockedAfter after
     answerRefusal answerSector sectorTold has larger overlap beyond
 access-rows = refl
-
-cipher-rows : Right cipherCases
-unfolding cipherCases publishedKey bigEndianBytes littleEndianBytes converted convertedBy dataKeys tweakKeys firstTweak tweakBytes
-    blocksUnder underTweak timesAlpha alphaByte raised throughCipher cipher rounds roundKey round
-    roundKeys grown nextWord turned roundConstant powerOfX addWord rotWord subWord inFours bytesOf blockByte block word eachByte eachColumn
-    addRoundKey mixColumns mixedWord mixed shiftRows subBytes byteAt substituted affine byteOf bit inverse squares product productOf whereSet timesX entries
-cipher-rows = refl
 
 table : Right cases
 unfolding cases

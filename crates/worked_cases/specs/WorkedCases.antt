@@ -1,17 +1,12 @@
--- The worked cases (RULES.md, Worked cases): the starred ones in one table, and the map program's output, computed from the definitions that
--- the contracts cite. Assumes nothing.
-use Prim.Native.Nat.{ℕ, _-_, _*_, _/_, _%_, _^_}
-use mathlib.Core.{Path._≡_, List.{List, [], _∷_, _++_, map}}
-use lib.ListN.{take, replicate}
-use Rattle.bits.specs.Bits.{entries}
-use Rattle.numbers.specs.Numbers.{bigEndianBytes}
-use Rattle.xts.specs.Units.{enciphered}
-use Rattle.crc32.specs.Crc32.{crc32}
+-- The worked cases (RULES.md, Worked cases): the starred ones in one table, and the map program's output, over the definitions that the
+-- contracts cite. Those of opening and of the cipher are in crates of their own. Assumes nothing.
+use Prim.Native.Nat.{ℕ, _-_, _*_, _^_}
+use mathlib.Core.{Path._≡_, List.{List, [], _∷_, _++_}}
+use lib.ListN.{replicate}
+use Rattle.bits.specs.Cases.{Rows, Right}
 use Rattle.answers.specs.Answers.{answerRefusal, Naming, unnamed, named, answerSector}
 use Rattle.answers.specs.declared.{Answer.Answer, Numbered.Numbered}
-use Rattle.layout.specs.declared.{Opened.{Opened, the-variants.{Accepted, Refused}}, Layout.Layout}
-use Rattle.header.specs.Header.{trueMagic}
-use Rattle.opening.specs.Opening.{opened}
+use Rattle.layout.specs.declared.Layout.{Layout}
 use Rattle.sector_map.specs.SectorMap.{hostSector, userSector, tweakOf}
 use Rattle.answers.specs.declared.Numbered.the-variants as mapped
 use Rattle.sector_map.specs.declared.Tweak.{Tweak}
@@ -22,46 +17,9 @@ use Rattle.making.specs.declared.Viewed.{Viewed}
 use Rattle.making.specs.declared.Viewed.the-variants as viewed
 use Rattle.map_output.specs.MapOutput.{layoutLines}
 use Rattle.guarantees.specs.MapProgram.{letters}
-
--- what a header of a case tells: H, O, V, which is also E, and Z
-pub record Told : Type 0 where
-  pub hiddenSize : ℕ
-  pub start : ℕ
-  pub size : ℕ
-  pub sectors : ℕ
-
--- .. for a standard volume, and for a hidden one
-unfoldable pub outerTold : ℕ → ℕ → Told
-outerTold size sectors = record { hiddenSize = 0; start = 131072; size = size; sectors = sectors }
-
-unfoldable pub hiddenTold : ℕ → ℕ → ℕ → Told
-hiddenTold start size sectors = record { hiddenSize = size; start = start; size = size; sectors = sectors }
-
--- the fields of such a header, version 5 and TRUE, from its magic to its last reserved byte; its keys are zeros, which have this checksum
-unfoldable pub fieldBytes : Told → List ℕ
-fieldBytes told =
-    trueMagic ++ bigEndianBytes 2 5 ++ bigEndianBytes 2 1792 ++ bigEndianBytes 4 0x0D968558 ++ replicate 16 0
-    ++ bigEndianBytes 8 (told .hiddenSize) ++ bigEndianBytes 8 (told .size) ++ bigEndianBytes 8 (told .start) ++ bigEndianBytes 8 (told .size)
-    ++ bigEndianBytes 4 0 ++ bigEndianBytes 4 (told .sectors) ++ replicate 120 0
-
--- the header: a salt, the fields, their checksum and the keys; the salt is zeros too
-unfoldable pub headerWith : Told → List ℕ
-headerWith told =
-    let fields = fieldBytes told in
-    replicate 64 0 ++ fields ++ bigEndianBytes 4 (crc32 fields) ++ replicate 256 0
-
--- what a case tells of opening: the refusal number, or 0 and the count of sectors
-unfoldable pub toldOf : Opened → List ℕ
-toldOf (Accepted layout) = 0 ∷ layout .«data_size» / 512 ∷ []
-toldOf (Refused number) = number ∷ []
-
--- opening at a code with one header, for S
-unfoldable pub opens : ℕ → ℕ → List ℕ → List ℕ
-opens code hostSize header = toldOf (opened header (code ∷ []) hostSize)
-
--- .. with M's header, for a Z
-unfoldable pub opensM : ℕ → List ℕ
-opensM sectors = opens 0 1048576 (headerWith (outerTold 786432 sectors))
+use Rattle.worked_headers.specs.Openings.{openingCases}
+use Rattle.worked_sectors.specs.SectorSizes.{sectorSizeCases}
+use Rattle.worked_cipher.specs.Units.{cipherCases}
 
 -- a volume in a host of 1,048,576 bytes, as a version 5 TRUE header tells it: its kind, O, V, candidate and Z
 unfoldable pub volume : ℕ → ℕ → ℕ → ℕ → ℕ → Layout
@@ -122,40 +80,6 @@ reading first count view = viewRead view 1048576 first count (count * 512)
 unfoldable pub leaving : ℕ → ℕ → View → View
 leaving first count view = after view (writing first count view)
 
--- rows of the table: what the definitions answer, and what the rules say
-abbrev pub Rows : Type 0
-Rows = List (List ℕ × List ℕ)
-
--- opening
-unfoldable pub openingCases : Rows
-openingCases =
-    let oneSector = headerWith (outerTold 512 512) in
-    -- in the least host, and in one that is a sector smaller
-    (opens 0 262656 oneSector, 0 ∷ 1 ∷ [])
-    ∷ (opens 0 262144 oneSector, 3 ∷ [])
-    -- with a data area that is a sector too large, and with one near 2^64
-    ∷ (opens 0 1048576 (headerWith (outerTold 786944 512)), 10 ∷ [])
-    ∷ (opens 0 1048576 (headerWith (outerTold (2 ^ 64 - 512) 512)), 10 ∷ [])
-    ∷ []
-
--- opening, by the size of the disk's sectors
-unfoldable pub sectorSizeCases : Rows
-sectorSizeCases =
-    -- M's header with each size that they may have, and with three that they may not
-    (opensM 512, 0 ∷ 1536 ∷ [])
-    ∷ (opensM 1024, 0 ∷ 1536 ∷ [])
-    ∷ (opensM 2048, 0 ∷ 1536 ∷ [])
-    ∷ (opensM 4096, 0 ∷ 1536 ∷ [])
-    ∷ (opensM 513, 8 ∷ [])
-    ∷ (opensM 8192, 8 ∷ [])
-    ∷ (opensM 0, 8 ∷ [])
-    -- sectors of 4,096 bytes: S, then V, 512 off a multiple; N's header, and with O 512 off
-    ∷ (opens 0 1049088 (headerWith (outerTold 786432 4096)), 10 ∷ [])
-    ∷ (opens 0 1048576 (headerWith (outerTold 785920 4096)), 10 ∷ [])
-    ∷ (opens 1 1048576 (headerWith (hiddenTold 655360 262144 4096)), 0 ∷ 512 ∷ [])
-    ∷ (opens 1 1048576 (headerWith (hiddenTold 654848 262144 4096)), 10 ∷ [])
-    ∷ []
-
 -- the map
 unfoldable pub mapCases : Rows
 mapCases =
@@ -196,25 +120,12 @@ accessCases =
     ∷ (onView (plainView largeM) (writing 1 0), 20 ∷ [])
     ∷ []
 
--- the key of IEEE 1619's vectors for AES-256: its half for the data, and its half for the tweaks
-unfoldable pub publishedKey : List ℕ
-publishedKey =
-    bigEndianBytes 32 0x2718281828459045235360287471352662497757247093699959574966967627
-    ++ bigEndianBytes 32 0x3141592653589793238462643383279502884197169399375105820974944592
-
--- enciphering: of its vector 10, the first two blocks, between which the tweak is reduced
-unfoldable pub cipherCases : Rows
-cipherCases = (
-  take 32 (enciphered publishedKey 0xFF (entries (λ k. k % 256) 512 0)),
-  bigEndianBytes 32 0x1C3B3A102F770386E4836C99E370CF9BEA00803F5E482357A4AE12D414A3E63B,
-) ∷ []
-
 -- the table
 unfoldable pub cases : Rows
 cases = openingCases ++ (sectorSizeCases ++ (mapCases ++ (accessCases ++ cipherCases)))
 
 -- the claim: every case, and the map program's whole output for M, is as the rules say
 pub record AsWorked : Type 0 where
-  pub table : map (λ c. c .0) cases ≡ map (λ c. c .1) cases
+  pub table : Right cases
   pub output : layoutLines volumeM
       ≡ letters "mark TRUE\nversion 5\nneeds 1792\nkind standard\nhost 1048576\nstart 131072\nsize 786432\nsectors 1536\nfirst 256\nlast 1791\n"

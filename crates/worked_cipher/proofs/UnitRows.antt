@@ -1,0 +1,18 @@
+-- The worked cases of the cipher hold: antt computes both sides. Assumes nothing.
+use mathlib.Core.Path.{refl}
+use Rattle.bits.specs.{Bits.entries, Cases.Right}
+use Rattle.numbers.specs.Numbers.{bigEndianBytes, littleEndianBytes}
+use Rattle.aes_steps.specs.Field.{timesX, whereSet, productOf, product, squares, inverse}
+use Rattle.aes_steps.specs.SBox.{bit, byteOf, affine, substituted}
+use Rattle.aes_steps.specs.Blocks.{byteAt, word, eachByte, block, inFours, blockByte, bytesOf, subBytes, shiftRows, mixed, mixedWord, eachColumn, mixColumns, addRoundKey}
+use Rattle.aes_steps.specs.{KeyExpansion.{subWord, rotWord, addWord, powerOfX, roundConstant, turned, nextWord, grown, roundKeys}, Rounds.round}
+use Rattle.aes.specs.Cipher.{roundKey, rounds, cipher, throughCipher}
+use Rattle.xts.specs.Units.{tweakBytes, raised, alphaByte, timesAlpha, underTweak, blocksUnder, firstTweak, convertedBy, dataKeys, tweakKeys, converted}
+use Rattle.worked_cipher.specs.Units.{publishedKey, cipherCases}
+
+pub cipher-rows : Right cipherCases
+unfolding cipherCases publishedKey bigEndianBytes littleEndianBytes converted convertedBy dataKeys tweakKeys firstTweak tweakBytes
+    blocksUnder underTweak timesAlpha alphaByte raised throughCipher cipher rounds roundKey round
+    roundKeys grown nextWord turned roundConstant powerOfX addWord rotWord subWord inFours bytesOf blockByte block word eachByte eachColumn
+    addRoundKey mixColumns mixedWord mixed shiftRows subBytes byteAt substituted affine byteOf bit inverse squares product productOf whereSet timesX entries
+cipher-rows = refl

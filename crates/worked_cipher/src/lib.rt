@@ -1,0 +1,1 @@
+// No code: the worked cases of the cipher, computed. Assumes nothing.
