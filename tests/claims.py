@@ -50,6 +50,15 @@ def row_edits(row, repository):
     yield 'for a private function', text.replace(first, '`layout::starts_after_headers`')
 
 
+def forward_edits(row):
+    """Each line that a row of exported functions must not be."""
+    first, other = row.cells
+    yield 'left out', ''
+    yield 'with another function', f'| {first} | `layout::is_sound` |'
+    yield 'with a function that there is not', f'| {first} | `layout::nothing` |'
+    yield 'for a function that is not exported', f'| `location` | {other} |'
+
+
 def with_line(page, line, text):
     lines = page.split('\n')
     return '\n'.join(lines[:line - 1] + ([text] if text else []) + lines[line:])
@@ -57,7 +66,8 @@ def with_line(page, line, text):
 
 def wrong_rows(page, repository):
     for row in filter(is_call_row, rows(page)):
-        for name, text in row_edits(row, repository):
+        edits = row_edits(row, repository) if row.heads[0] == 'call' else forward_edits(row)
+        for name, text in edits:
             yield f'the row of {row.cells[0]} {name}', with_line(page, row.line, text)
 
 
@@ -98,7 +108,8 @@ def wrong_rules(page):
     yield from wrong_files(page)
     yield from with_ends(page, [
         '- `Tells.veraTold`, `.nothing`', '- `Tells.veraTold`, `judge`, `.trueTold`', '- `Tells.veraTold`\n- `.trueTold`',
-        '`Keeps nonesuch`', '`refused 2`', '`sum_wraps`', '| edit |\n|---|\n| `sum_wraps` |', '| claim |\n|---|\n| `magicOf` |',
+        '`Keeps nonesuch`', '`refused 2`', '`sum_wraps`', '| edit |\n|---|\n| `sum_wraps` |', '| edit |\n|---|\n| none |',
+        '| claim |\n|---|\n| `magicOf` |',
         '| definition (layout/specs/Rules.antt) |\n|---|\n| `judge` |', '- definition: none; claim: `magicOf`',
         '- definition: `Tells.nothing` (layout/specs/Rules.antt); claim: `Tells`', 'One `name\nin two` lines.'])
 
@@ -118,10 +129,35 @@ def function_problems(page, files):
             yield f'a public function of which it should say: {sentence}'
 
 
+def wrong_forwards(text):
+    """Sources of the exported functions in which one does not just hand on, or has another contract."""
+    call = 'boundary_access::read(view, image, first, count, buffer, sector)'
+    for name, old, new in (
+            ('exchanges two parameters', call, call.replace('first, count', 'count, first')),
+            ('passes a number', call, call.replace('first,', '0,')),
+            ('calls another function', call, call.replace('::read(', '::read_raw(')),
+            ('does more than call', call, f'let answer = {call};\n    answer'),
+            ('promises less', '    ensures { λ _. ⌜ now (host .exit) ≡ ', '    ensures { λ _. ⌜ now (host .exit) ≡ id '),
+            ('has a premise', 'ensures { λ r. ⌜ ReadCall ', 'ensures { λ r. ⌜ first ≡ 0 → ReadCall '),
+            ('has its parameters in another order', 'first: u64,\n    count: u64,\n    buffer: &mut [u8],',
+             'count: u64,\n    first: u64,\n    buffer: &mut [u8],')):
+        assert old in text, old
+        yield name, text.replace(old, new, 1)
+
+
+def forward_problems(page, files):
+    """What the check gets wrong of exported functions that are not their callees letter by letter."""
+    path = 'crates/ondristela/src/lib.rt'
+    for name, text in wrong_forwards(files[path]):
+        if not any(all_problems(page, read_repository({**files, path: text}))):
+            yield f'an exported function that {name}'
+
+
 def told(repository):
     """A page with a made-up record's fields and every edit of the crates of claims."""
-    edits = ', '.join(f'`{crate}/{edit}`' for crate in CLAIMING for edit in sorted(repository.crates[crate].edits))
-    return f'`Claims.forgotten`\n\n| field of `Claims` | edits |\n|---|---|\n| `stated` | {edits} |\n'
+    edits = [f'`{crate}/{edit}`' for crate in CLAIMING for edit in sorted(repository.crates[crate].edits)]
+    rows_of = f'| `stated` | {", ".join(edits[1:])} |\n| `forgotten` | {edits[0]} |\n'
+    return f'| field of `Claims` | edits |\n|---|---|\n{rows_of}'
 
 
 def record_problems(repository):
@@ -140,6 +176,7 @@ def claims_unnoticed(page, files):
         if not any(all_problems(text, repository)):
             yield name
     yield from function_problems(page, files)
+    yield from forward_problems(page, files)
     yield from record_problems(read_repository({**files, CLAIMS: RECORD}))
 
 

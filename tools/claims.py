@@ -6,15 +6,18 @@
 named.py says what may stand in backticks; here, an edit of `guarantees` may stand without its crate. For RULES.md
 see rules.py, for CLAIMS.md here.
 
-A table whose first head is "call" or "exported function" has a row for each public function: the function,
-as `crate::name` or by its exported name; what it equals, where each name is one that its contract cites; and
-last its must-fail edits, at least two of its own crate, or, where it only hands on to a function that has the
-same contract letter by letter, of that function's crate, as `crate/edit`. No public function has a `requires`.
+A table whose first head is "call" has a row for each public function: the function, as `crate::name`; what it
+equals, where each name is one that its contract cites; and last its must-fail edits, at least two of its own
+crate. No public function has a `requires`.
+
+A table whose first head is "exported function" has a row for each exported function, and beside it the function
+that it hands on to: its contract, its parameters and their order are that one's letter by letter, and its body
+is the call with these parameters. So the edits of that function are enough for both.
 
 In another table, a column that has "edit" or "edits" in its head has nothing but edits, and one that has
 "field of `Record`" nothing but fields of that record and names with a dot or slash. Each field of the record
-Claims stands in such a column or as `Claims.field`, and each edit of a crate of claims in a column of edits or
-with its crate, as `guarantees/edit`.
+Claims stands in such a column, with an edit in one of its rows, and each edit of a crate of claims in a column
+of edits or with its crate, as `guarantees/edit`.
 
 No count of such things is written by hand.
 """
@@ -85,13 +88,6 @@ def called(row):
     return f'{BOUNDARY}::{name}' if row.heads[0] == 'exported function' else name
 
 
-def sharing(function, crate, repository):
-    """The crates whose edits try a contract: the function's own, and that of the function it shares it with."""
-    other = function.hands_on.split('::')[0]
-    handed = repository.crates[other].functions.get(function.hands_on) if other in repository.crates else None
-    return {crate, other} if handed and handed.contract == function.contract else {crate}
-
-
 def row_problems(row, function, crate, repository):
     if len(row.cells) < 3:
         yield 'a row has a function, what it equals, and edits'
@@ -106,10 +102,17 @@ def row_problems(row, function, crate, repository):
     for edit in sorted(edits):
         if not is_edit(edit, crate, repository):
             yield f'`{edit}` is no must-fail edit of {crate}'
-    own = {edit if '/' in edit else f'{crate}/{edit}' for edit in edits}
-    crates = sharing(function, crate, repository)
-    if len(own & {f'{name}/{edit}' for name in crates for edit in repository.crates[name].edits}) < 2:
-        yield f'fewer than two must-fail edits of {" and ".join(sorted(crates))} stand beside {row.cells[0]}'
+    if len({edit.removeprefix(f'{crate}/') for edit in edits} & repository.crates[crate].edits) < 2:
+        yield f'fewer than two must-fail edits of {crate} stand beside {row.cells[0]}'
+
+
+def forward_problems(row, function, functions):
+    """What an exported function is other than a call of the function beside it, with its contract."""
+    other = row.cells[-1].strip('`')
+    if function.hands_on != other:
+        yield f'the body at {function.place} is not the call of `{other}` with the parameters in their order'
+    elif other not in functions or function.contract != functions[other][1].contract:
+        yield f'the contract at {function.place} is not that of `{other}`, letter by letter'
 
 
 def call_problems(page, repository):
@@ -123,7 +126,9 @@ def call_problems(page, repository):
             yield row.line, f'{row.cells[0]} is no public function'
             continue
         crate, function = functions[name]
-        yield from ((row.line, sentence) for sentence in row_problems(row, function, crate, repository))
+        found = (forward_problems(row, function, functions) if crate == BOUNDARY
+                 else row_problems(row, function, crate, repository))
+        yield from ((row.line, sentence) for sentence in found)
     end = page.count('\n') + 1
     for name, (_, function) in sorted(functions.items()):
         if name not in listed:
@@ -132,17 +137,21 @@ def call_problems(page, repository):
             yield end, f'the public function `{name}`, at {function.place}, has a `requires`'
 
 
+def tried_fields(page):
+    """The fields of Claims that have an edit in one of their rows."""
+    tried = {line for line, names in edit_cells(page) if names}
+    return {name for line, record, names in field_cells(page) if record == 'Claims' and line in tried for name in names}
+
+
 def claim_problems(page, repository):
     """What the page leaves out of the record of all claims, and of the edits that try it."""
     if repository.claims is None:
         return
     dotted = {name.text for name in names_in(page)}
-    fields = {name for _, record, names in field_cells(page) if record == 'Claims' for name in names}
     edits = {name for _, names in edit_cells(page) for name in names}
     end = page.count('\n') + 1
-    for field in sorted(repository.claims - fields):
-        if f'Claims.{field}' not in dotted:
-            yield end, f'the field `{field}` of {CLAIMS} is not on the page'
+    for field in sorted(repository.claims - tried_fields(page)):
+        yield end, f'no row has the field `{field}` of {CLAIMS} with a must-fail edit'
     own = {name if '/' in name else f'{GUARANTEES}/{name}' for name in edits} | dotted
     for crate in CLAIMING:
         for edit in sorted(repository.crates[crate].edits if crate in repository.crates else ()):

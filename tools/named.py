@@ -21,7 +21,7 @@ ROOT = Path(__file__).resolve().parent.parent
 CLAIMS = 'crates/guarantees/specs/Claims.antt'
 GUARANTEES = 'guarantees'
 # The crates whose specs say claims, or what claims are said in; each of their must-fail edits makes one wrong.
-CLAIMING = (GUARANTEES, 'model', 'worked_cases')
+CLAIMING = (GUARANTEES, 'model', 'worked_cases', 'worked_headers', 'worked_cipher')
 
 # Words of Rattle and C that may stand in backticks.
 PLAIN = {'requires', '&mut', 'memmove'}
@@ -72,10 +72,15 @@ def in_one_line(contract):
     return re.sub(r',? ?\)', ')', ' '.join(contract.split())).replace('( ', '(')
 
 
+def parameters(contract):
+    """The names of a signature's parameters, in their order."""
+    return re.findall(r'(\w+): ', contract[:contract.index(')')])
+
+
 def handed_on(rest, contract):
-    """The function of another crate that a body of one call hands on to, or ''."""
-    match = re.match(r'\s*\{\s+(\w+::\w+)\([^;{}]*\)\s+\}\n', rest[len(contract):])
-    return match[1] if match else ''
+    """The function of another crate that the body calls with the parameters in their order, and does nothing else, or ''."""
+    match = re.match(r'\s*\{\s+(\w+::\w+)\(([^;{}]*)\)\s+\}\n', rest[len(contract):])
+    return match[1] if match and re.findall(r'[^\s,]+', match[2]) == parameters(contract) else ''
 
 
 def public_functions(path, prefix, text):

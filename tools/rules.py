@@ -4,8 +4,8 @@ named.py says what may stand in backticks; here also one of WORDS.
 
 A rule's bullet "definition: `a`, `b` (path); claim: `c`" has behind its definitions the file under crates/ that
 declares them, and as claims what specs of a crate of claims declare, or a function of one. In a table the head of
-a column is "definition (path)" or "claim". A column headed "edit" has nothing but edits, with their crates. The table
-headed "file in guarantees/specs" has a row for every file there, with names that the file declares.
+a column is "definition (path)" or "claim". A column headed "edit" has one edit or more, with their crates, and nothing
+else. The table headed "file in guarantees/specs" has a row for every file there, with names that the file declares.
 """
 import re
 from pathlib import Path
@@ -86,6 +86,8 @@ def cell_problems(line, head, cell, repository):
     if head == 'claim':
         yield from stated_problems(block_names(line, cell), repository)
     if head == 'edit':
+        if not any(block_names(line, cell)):
+            yield line, 'no must-fail edit stands beside this'
         for name in block_names(line, cell):
             if not is_edit(name.text, None, repository):
                 yield line, f'`{name.text}` is no must-fail edit, written with its crate'
