@@ -3,7 +3,7 @@ use Prim.Native.Nat.{ℕ, zero, suc, _+_, _-_, _<_}
 use native.Mathlib.Nat.{not-suc-le-zero}
 use native.Mathlib.Numerals.{add-one, sub-one}
 use mathlib.Core.{Path.{_≡_, sym, ap, ap₂, _∙_}, List.List}
-use Rattle.aes_steps.specs.Blocks.{Words}
+use Rattle.aes_words.specs.Words.{Words}
 use Rattle.aes_steps.specs.Rounds.{round, invRound}
 use Rattle.aes.specs.Cipher.{roundKey, rounds, invRounds}
 

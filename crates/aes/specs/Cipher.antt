@@ -2,7 +2,8 @@
 use Prim.Native.Nat.{ℕ, zero, suc}
 use mathlib.Core.List.{List, []}
 use lib.ListN.{getD}
-use Rattle.aes_steps.specs.{Blocks.{Words, subBytes, invSubBytes, shiftRows, invShiftRows, addRoundKey}, Rounds.{round, invRound}}
+use Rattle.aes_words.specs.Words.{Words}
+use Rattle.aes_steps.specs.{Blocks.{subBytes, invSubBytes, shiftRows, invShiftRows, addRoundKey}, Rounds.{round, invRound}}
 use Rattle.aes.specs.declared.Direction.{Direction, the-variants.{Encipher, Decipher}}
 
 -- round key r

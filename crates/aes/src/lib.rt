@@ -1,11 +1,10 @@
 // AES with keys of 256 bits (FIPS 197): the cipher and its inverse. A block is its four columns of four
 // bytes; blocks and the fifteen round keys pass by value.
-// The tables that a function borrows are to be those of `aes_steps`: with others its answer is left free.
+// The tables that a function borrows are to be those of `aes_tables`: with others its answer is left free.
 // Assumes nothing; no public function has a `requires`.
 ghost use mathlib.Core.Path.{_≡_};
-ghost use Rattle.aes_steps.specs.SBox.{ByTables};
+ghost use Rattle.aes_tables.specs.SBox.{ByTables};
 ghost use Rattle.aes.specs.Cipher.{cipher, invCipher, throughCipher};
-use aes_steps::rounds;
 
 // Which way a block goes through the cipher.
 pub enum Direction {
@@ -36,14 +35,14 @@ fn encipher_block(
 ) -> [[u8; 4]; 4]
     ensures { λ r. ⌜ ByTables (now (tables .entry)) (r ≡ cipher keys block) ⌝ }
 {
-    let mut state = rounds::add_round_key(keys[0], block);
+    let mut state = aes_steps::add_round_key(keys[0], block);
     let mut r = 0;
     while r < 13 {
-        let after = rounds::round(tables, keys[r + 1], state);
+        let after = aes_steps::round(tables, keys[r + 1], state);
         state = after;
         r += 1;
     }
-    rounds::last_round(tables, keys[14], state)
+    aes_steps::last_round(tables, keys[14], state)
 }
 
 // A block deciphered with round keys.
@@ -54,12 +53,12 @@ fn decipher_block(
 ) -> [[u8; 4]; 4]
     ensures { λ r. ⌜ ByTables (now (tables .entry)) (r ≡ invCipher keys block) ⌝ }
 {
-    let mut state = rounds::add_round_key(keys[14], block);
+    let mut state = aes_steps::add_round_key(keys[14], block);
     let mut r = 13;
     while 0 < r {
-        let after = rounds::inv_round(tables, keys[r], state);
+        let after = aes_steps::inv_round(tables, keys[r], state);
         state = after;
         r -= 1;
     }
-    rounds::last_inv_round(tables, keys[0], state)
+    aes_steps::last_inv_round(tables, keys[0], state)
 }

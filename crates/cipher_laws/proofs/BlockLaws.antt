@@ -5,7 +5,8 @@ use mathlib.Core.{Path.{_≡_, refl, sym, ap, subst, fun-ext, _∙_}, List.{List
 use lib.ListN.{length, getD, take, drop, take-append-drop}
 use Rattle.bits.specs.Bits.{Bytes, entries}
 use Rattle.bits.proofs.{BytesLaws.bytes-every, EntriesLaws.{entries-every, entries-getD}}
-use Rattle.aes_steps.specs.Blocks.{Words, byteAt, word, block, inFours, blockByte, bytesOf}
+use Rattle.aes_words.specs.Words.{Words, word, inFours}
+use Rattle.aes_steps.specs.Blocks.{byteAt, block, blockByte, bytesOf}
 use Rattle.cipher_laws.specs.Blocks.{SmallWord, Small, Block}
 
 -- ---- by row and column

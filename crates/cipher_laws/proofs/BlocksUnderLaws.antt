@@ -5,7 +5,8 @@ use mathlib.Core.{Path.{_≡_, refl, ap, ap₂, _∙_}, List.{List, [], _∷_, _
 use lib.ListN.{length, drop, length-drop, take-append-drop}
 use Rattle.bits.specs.Bits.{Bytes, entries}
 use Rattle.bits.proofs.BytesLaws.{bytes-drop, bytes-append, bytes-getD}
-use Rattle.aes_steps.specs.Blocks.{Words, inFours, bytesOf}
+use Rattle.aes_words.specs.Words.{Words, inFours}
+use Rattle.aes_steps.specs.Blocks.{bytesOf}
 use Rattle.xts.specs.Units.{timesAlpha, underTweak, blocksUnder}
 use Rattle.cipher_laws.specs.Blocks.{Small, Undone}
 use Rattle.cipher_laws.proofs.BlockLaws.{in-fours-block, bytes-in-fours, in-fours-bytes, bytes-of-small}

@@ -1,7 +1,8 @@
 -- The cipher and its inverse undo each other, with any round keys of bytes. Assumes nothing.
 use Prim.Native.Nat.{ℕ, zero, suc}
 use mathlib.Core.List.{List}
-use Rattle.aes_steps.specs.Blocks.{Words, subBytes, invSubBytes, shiftRows, invShiftRows, addRoundKey}
+use Rattle.aes_words.specs.Words.{Words}
+use Rattle.aes_steps.specs.Blocks.{subBytes, invSubBytes, shiftRows, invShiftRows, addRoundKey}
 use Rattle.aes_steps.specs.Rounds.{round, invRound}
 use Rattle.aes.specs.Cipher.{roundKey, rounds, invRounds, cipher, invCipher, throughCipher}
 use Rattle.aes.specs.declared.Direction.{Direction, the-variants.{Encipher, Decipher}}

@@ -4,8 +4,8 @@ use native.Mathlib.Nat.{le-of-suc-le-suc}
 use mathlib.Core.Path.{_≡_, refl}
 use lib.Dec.{lit<}
 use Rattle.bits.proofs.TestLaws.{same-below}
-use Rattle.aes_steps.specs.Field.{timesX, whereSet, productOf, product, squares, inverse}
-use Rattle.aes_steps.proofs.FieldLaws.{product-byte}
+use Rattle.aes_tables.specs.Field.{timesX, whereSet, productOf, product, squares, inverse}
+use Rattle.aes_mixing.proofs.FieldLaws.{product-byte}
 
 squares-byte : (n a : ℕ) → squares n a < 256
 unfolding squares

@@ -5,8 +5,9 @@ use mathlib.Core.List.{List, [], _∷_, _++_}
 use lib.{ListN.{getD, take, drop}, Seq.getD-drop}
 use Rattle.bits.specs.Bits.{Bytes}
 use Rattle.bits.proofs.BytesLaws.{bytes-take, bytes-drop, bytes-getD}
-use Rattle.aes_steps.specs.Blocks.{Words, byteAt, inFours}
-use Rattle.aes_steps.specs.KeyExpansion.{nextWord, grown, roundKeys}
+use Rattle.aes_words.specs.Words.{Words, inFours}
+use Rattle.aes_steps.specs.Blocks.{byteAt}
+use Rattle.key_expansion.specs.KeyExpansion.{nextWord, grown, roundKeys}
 use Rattle.aes.specs.Cipher.{roundKey}
 use Rattle.cipher_laws.specs.Blocks.{SmallWord, Small}
 use Rattle.cipher_laws.proofs.WordLaws.{next-word-small}

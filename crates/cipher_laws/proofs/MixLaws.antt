@@ -4,9 +4,11 @@ use mathlib.Core.{Path.{_≡_, sym, ap, ap₂, fun-ext, _∙_}, List.{List, [], 
 use lib.{Bits.{bitXor, xor-comm, xor-lt, xor-zero-r}, Dec.{T, eqb}, ListN.getD}
 use Rattle.bits.specs.Bits.{entries}
 use Rattle.bits.proofs.{TestLaws.{allBelow, same-below}, XorLaws.{xor-assoc, xor-left-comm}}
-use Rattle.aes_steps.specs.Field.{timesX, whereSet, productOf, product}
-use Rattle.aes_steps.specs.Blocks.{Words, byteAt, word, block, mixed, mixedWord, eachColumn, mixColumns, invMixColumns}
-use Rattle.aes_steps.proofs.FieldLaws.{product-sum, product-byte}
+use Rattle.aes_tables.specs.Field.{timesX, whereSet, productOf, product}
+use Rattle.aes_words.specs.Words.{Words, word}
+use Rattle.aes_steps.specs.Blocks.{byteAt, block}
+use Rattle.aes_mixing.specs.Mixing.{mixed, mixedWord, eachColumn, mixColumns, invMixColumns}
+use Rattle.aes_mixing.proofs.FieldLaws.{product-sum, product-byte}
 use Rattle.cipher_laws.specs.Blocks.{SmallWord, Small, Block, Undone, Inverses}
 use Rattle.cipher_laws.proofs.BlockLaws.{block-block}
 

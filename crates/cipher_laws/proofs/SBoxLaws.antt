@@ -3,8 +3,8 @@ use Prim.Native.Nat.{ℕ, _+_, _%_, _<_}
 use native.Mathlib.Omega.{arith}
 use mathlib.Core.Path.{_≡_, ap, _∙_}
 use Rattle.bits.proofs.TestLaws.{same-below}
-use Rattle.aes_steps.specs.Field.{inverse}
-use Rattle.aes_steps.specs.SBox.{bit, byteOf, affine, inverseAffine, substituted, restored}
+use Rattle.aes_tables.specs.Field.{inverse}
+use Rattle.aes_tables.specs.SBox.{bit, byteOf, affine, inverseAffine, substituted, restored}
 use Rattle.cipher_laws.proofs.InverseLaws.{inverse-byte, inverse-inverse}
 
 -- eight bits are a byte

@@ -4,7 +4,9 @@ use mathlib.Core.Path.{_≡_, sym}
 use lib.Bits.{bitXor, xor-lt}
 use Rattle.bits.specs.Bits.{entries}
 use Rattle.bits.proofs.XorLaws.{xor-cancel-right}
-use Rattle.aes_steps.specs.{Blocks.{Words, byteAt, word, block, subBytes, invSubBytes, shiftRows, invShiftRows, addRoundKey}, SBox.{substituted, restored}}
+use Rattle.aes_words.specs.Words.{Words, word}
+use Rattle.aes_steps.specs.Blocks.{byteAt, block, subBytes, invSubBytes, shiftRows, invShiftRows, addRoundKey}
+use Rattle.aes_tables.specs.SBox.{substituted, restored}
 use Rattle.cipher_laws.specs.Blocks.{Small, Undone, Inverses}
 use Rattle.cipher_laws.proofs.BlockLaws.{block-block, block-same}
 use Rattle.cipher_laws.proofs.SBoxLaws.{substituted-byte, restored-byte, restored-substituted, substituted-restored}

@@ -4,7 +4,8 @@ use native.Mathlib.Omega.{arith}
 use mathlib.Core.List.{List}
 use lib.{Bits.xor-lt, ListN.length}
 use Rattle.numbers.proofs.WrittenLaws.{little-endian-bytes-length, little-endian-bytes-lt}
-use Rattle.aes_steps.specs.Blocks.{Words, inFours, blockByte}
+use Rattle.aes_words.specs.Words.{Words, inFours}
+use Rattle.aes_steps.specs.Blocks.{blockByte}
 use Rattle.aes.specs.Cipher.{roundKey}
 use Rattle.xts.specs.Units.{tweakBytes, raised, alphaByte, timesAlpha, firstTweak}
 use Rattle.cipher_laws.specs.Blocks.{Small}

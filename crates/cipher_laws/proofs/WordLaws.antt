@@ -3,9 +3,12 @@ use Prim.Native.Nat.{ℕ, zero, suc, _-_, _/_, _%_, _<_}
 use mathlib.Core.{Bool.{Bool, true, false, cond}, List.{List, []}}
 use lib.{Bits.{bitXor, xor-lt}, Dec.{eqb, lit<}, ListN.getD}
 use Rattle.bits.proofs.BytesLaws.{bytes-getD}
-use Rattle.aes_steps.specs.{Blocks.{Words, byteAt, eachByte}, SBox.substituted, KeyExpansion.{subWord, rotWord, addWord}}
-use Rattle.aes_steps.proofs.FieldLaws.{product-2, product-byte}
-use Rattle.aes_steps.specs.KeyExpansion.{powerOfX, roundConstant, turned, nextWord}
+use Rattle.aes_words.specs.Words.{Words, eachByte, subWord, addWord}
+use Rattle.aes_steps.specs.Blocks.{byteAt}
+use Rattle.aes_tables.specs.SBox.{substituted}
+use Rattle.key_expansion.specs.KeyExpansion.{rotWord}
+use Rattle.aes_mixing.proofs.FieldLaws.{product-2, product-byte}
+use Rattle.key_expansion.specs.KeyExpansion.{powerOfX, roundConstant, turned, nextWord}
 use Rattle.cipher_laws.specs.Blocks.{SmallWord, Small}
 use Rattle.cipher_laws.proofs.{BlockLaws.word-small, SBoxLaws.substituted-byte}
 

@@ -2,7 +2,8 @@
 use Prim.Native.Nat.{ℕ, _<_}
 use mathlib.Core.{Path._≡_, List.List}
 use lib.ListN.{getD}
-use Rattle.aes_steps.specs.Blocks.{Words, byteAt, block}
+use Rattle.aes_words.specs.Words.{Words}
+use Rattle.aes_steps.specs.Blocks.{byteAt, block}
 
 -- a word of bytes, and words of them
 abbrev pub SmallWord : List ℕ → Type 0

@@ -5,8 +5,8 @@ use native.Mathlib.Omega.{arith}
 use mathlib.Core.{Path.{_≡_, refl, sym, ap, _∙_}, Bool.cond, List.List}
 use lib.{Bits.bitXor, Dec.leb, ListN.take}
 use Rattle.bits.proofs.TestLaws.{same-below}
-use Rattle.aes_steps.specs.Field.{timesX, whereSet, productOf, product, squares, inverse}
-use Rattle.aes_steps.proofs.FieldLaws.{product-1, product-sum}
+use Rattle.aes_tables.specs.Field.{timesX, whereSet, productOf, product, squares, inverse}
+use Rattle.aes_mixing.proofs.FieldLaws.{product-1, product-sum}
 use Rattle.numbers.specs.Numbers.{littleEndian}
 use Rattle.numbers.proofs.WrittenLaws.{little-endian-bytes-pad}
 use Rattle.aes.specs.declared.Direction.the-variants.{Encipher, Decipher}

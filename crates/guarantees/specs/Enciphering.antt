@@ -9,7 +9,7 @@ use Rattle.bits.specs.Bits.{Bytes}
 use Rattle.layout.specs.declared.Layout.{Layout}
 use Rattle.judgement.specs.Offsets.{extentStart}
 use Rattle.sector_map.specs.SectorMap.{firstSector, hostSector, blockOf, tweakOf}
-use Rattle.aes_steps.specs.{Field.{product, inverse}, SBox.{substituted, restored}}
+use Rattle.aes_tables.specs.{Field.{product, inverse}, SBox.{substituted, restored}}
 use Rattle.xts.specs.Units.{tweakBytes, enciphered, deciphered}
 use Rattle.guarantees.specs.SectorMap.{Sound}
 

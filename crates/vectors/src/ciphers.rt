@@ -3,7 +3,6 @@
 use crate::input;
 use crate::print;
 use aes::Direction;
-use aes_steps::expansion;
 
 const PUBLISHED_UNIT: u64 = 16;
 
@@ -22,13 +21,13 @@ const UNIT: usize = 11;
 const ROUND_KEYS: usize = 15;
 
 pub fn run_key(body: &[u8]) {
-    let tables = aes_steps::cipher_tables();
-    print_round_keys(expansion::expand(&tables, aes_key(body)));
+    let tables = aes_tables::cipher_tables();
+    print_round_keys(key_expansion::expand(&tables, aes_key(body)));
 }
 
 pub fn run_block(body: &[u8]) {
-    let tables = aes_steps::cipher_tables();
-    let keys = expansion::expand(&tables, aes_key(body));
+    let tables = aes_tables::cipher_tables();
+    let keys = key_expansion::expand(&tables, aes_key(body));
     let enciphered = aes::convert_block(&tables, keys, Direction::Encipher, plain_block(body));
     print_block(enciphered);
     print_block(aes::convert_block(&tables, keys, Direction::Decipher, enciphered));

@@ -2,10 +2,14 @@
 use mathlib.Core.Path.{refl}
 use Rattle.bits.specs.{Bits.entries, Cases.Right}
 use Rattle.numbers.specs.Numbers.{bigEndianBytes, littleEndianBytes}
-use Rattle.aes_steps.specs.Field.{timesX, whereSet, productOf, product, squares, inverse}
-use Rattle.aes_steps.specs.SBox.{bit, byteOf, affine, substituted}
-use Rattle.aes_steps.specs.Blocks.{byteAt, word, eachByte, block, inFours, blockByte, bytesOf, subBytes, shiftRows, mixed, mixedWord, eachColumn, mixColumns, addRoundKey}
-use Rattle.aes_steps.specs.{KeyExpansion.{subWord, rotWord, addWord, powerOfX, roundConstant, turned, nextWord, grown, roundKeys}, Rounds.round}
+use Rattle.aes_tables.specs.Field.{timesX, whereSet, productOf, product, squares, inverse}
+use Rattle.aes_tables.specs.SBox.{bit, byteOf, affine, substituted}
+use Rattle.aes_steps.specs.Blocks.{byteAt, block, blockByte, bytesOf, subBytes, shiftRows, addRoundKey}
+use Rattle.aes_words.specs.Words.{word, eachByte, inFours}
+use Rattle.aes_mixing.specs.Mixing.{mixed, mixedWord, eachColumn, mixColumns}
+use Rattle.aes_words.specs.Words.{subWord, addWord}
+use Rattle.key_expansion.specs.KeyExpansion.{rotWord, powerOfX, roundConstant, turned, nextWord, grown, roundKeys}
+use Rattle.aes_steps.specs.Rounds.{round}
 use Rattle.aes.specs.Cipher.{roundKey, rounds, cipher, throughCipher}
 use Rattle.xts.specs.Units.{tweakBytes, raised, alphaByte, timesAlpha, underTweak, blocksUnder, firstTweak, convertedBy, dataKeys, tweakKeys, converted}
 use Rattle.worked_cipher.specs.Units.{publishedKey, cipherCases}

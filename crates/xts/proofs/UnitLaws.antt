@@ -6,7 +6,8 @@ use mathlib.Core.{Path.{_≡_, refl, ap, _∙_}, List.{List, _++_}}
 use lib.ListN.{length, take, drop, length-append}
 use Rattle.bits.specs.Bits.{entries}
 use Rattle.fields.specs.Bytes.{overlay}
-use Rattle.aes_steps.specs.Blocks.{Words, inFours, bytesOf}
+use Rattle.aes_words.specs.Words.{Words, inFours}
+use Rattle.aes_steps.specs.Blocks.{bytesOf}
 use Rattle.aes.specs.{Cipher.throughCipher, declared.Direction.Direction}
 use Rattle.xts.specs.{Runs.inUnits, Units.{timesAlpha, underTweak, blocksUnder, firstTweak, convertedBy, dataKeys, tweakKeys, converted}}
 use Rattle.xts.proofs.PieceLaws.{next-piece, all-done}

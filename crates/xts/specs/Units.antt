@@ -4,8 +4,9 @@ use Prim.Native.Nat.{ℕ, zero, suc, _+_, _*_, _/_, _%_}
 use mathlib.Core.List.{List, [], _∷_, _++_}
 use lib.{Bits.bitXor, ListN.{getD, take, drop}}
 use Rattle.numbers.specs.Numbers.{littleEndianBytes}
-use Rattle.aes_steps.specs.Blocks.{Words, block, inFours, blockByte, bytesOf, addRoundKey}
-use Rattle.aes_steps.specs.KeyExpansion.{roundKeys}
+use Rattle.aes_words.specs.Words.{Words, inFours}
+use Rattle.aes_steps.specs.Blocks.{block, blockByte, bytesOf, addRoundKey}
+use Rattle.key_expansion.specs.KeyExpansion.{roundKeys}
 use Rattle.aes.specs.Cipher.{cipher, throughCipher}
 use Rattle.aes.specs.declared.Direction.{Direction, the-variants.{Encipher, Decipher}}
 

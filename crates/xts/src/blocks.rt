@@ -3,11 +3,12 @@ ghost use mathlib.Core.Path.{_≡_};
 ghost use Prim.Native.Nat.{_+_, _*_, _/_, _≤_};
 ghost use lib.ListN.{length, take, drop};
 ghost use Rattle.fields.specs.Bytes.{overlay};
-ghost use Rattle.aes_steps.specs.{Blocks.{inFours, bytesOf}, SBox.cipherTables};
+ghost use Rattle.aes_words.specs.Words.{inFours};
+ghost use Rattle.aes_steps.specs.Blocks.{bytesOf};
+ghost use Rattle.aes_tables.specs.SBox.{cipherTables};
 ghost use Rattle.aes.specs.Cipher.{throughCipher};
 ghost use Rattle.xts.specs.Units.{raisedWord, timesAlpha, underTweak as underTweakOf};
 use aes::Direction;
-use aes_steps::rounds;
 
 // A block through the cipher: the tweak is added before and after.
 pub fn under_tweak(
@@ -20,8 +21,8 @@ pub fn under_tweak(
     requires { ⌜ now tables ≡ cipherTables ⌝ }
     ensures { λ r. ⌜ r ≡ underTweakOf (throughCipher direction keys) tweak block ⌝ }
 {
-    let masked = rounds::add_round_key(tweak, block);
-    rounds::add_round_key(tweak, aes::convert_block(tables, keys, direction, masked))
+    let masked = aes_steps::add_round_key(tweak, block);
+    aes_steps::add_round_key(tweak, aes::convert_block(tables, keys, direction, masked))
 }
 
 // A tweak times α: what leaves the last byte comes to the first as 135.

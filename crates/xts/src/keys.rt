@@ -1,7 +1,7 @@
 // The round keys of a key's halves, and the tweak of a unit's first block.
 ghost use mathlib.Core.Path.{_≡_};
 ghost use lib.ListN.{length};
-ghost use Rattle.aes_steps.specs.SBox.{cipherTables};
+ghost use Rattle.aes_tables.specs.SBox.{cipherTables};
 ghost use Rattle.xts.specs.Units.{dataKeys, tweakKeys, firstTweak};
 use aes::Direction;
 
@@ -10,7 +10,7 @@ pub fn data_keys(tables: &[[u8; 256]; 2], key: [u8; 64]) -> [[[u8; 4]; 4]; 15]
     requires { ⌜ now tables ≡ cipherTables ⌝ }
     ensures { λ r. ⌜ r ≡ dataKeys key ⌝ }
 {
-    aes_steps::expansion::expand(tables, half(&key[..32]))
+    key_expansion::expand(tables, half(&key[..32]))
 }
 
 // The round keys of the second half.
@@ -18,7 +18,7 @@ pub fn tweak_keys(tables: &[[u8; 256]; 2], key: [u8; 64]) -> [[[u8; 4]; 4]; 15]
     requires { ⌜ now tables ≡ cipherTables ⌝ }
     ensures { λ r. ⌜ r ≡ tweakKeys key ⌝ }
 {
-    aes_steps::expansion::expand(tables, half(&key[32..]))
+    key_expansion::expand(tables, half(&key[32..]))
 }
 
 // 32 bytes by value.

@@ -4,7 +4,7 @@
 ghost use mathlib.Core.Path.{_≡_};
 ghost use Prim.Native.Nat.{_+_, _/_, _%_, _^_, _<_};
 ghost use lib.ListN.{length};
-ghost use Rattle.aes_steps.specs.SBox.{cipherTables};
+ghost use Rattle.aes_tables.specs.SBox.{cipherTables};
 ghost use Rattle.aes.specs.Cipher.{throughCipher};
 ghost use Rattle.xts.specs.Units.{blocksUnder, converted};
 ghost use Rattle.xts.specs.Runs.{inUnits, convertedRun};
@@ -17,7 +17,7 @@ mod keys;
 pub fn convert(direction: Direction, key: [u8; 64], number: u64, unit: [u8; 512]) -> [u8; 512]
     ensures { λ r. ⌜ r ≡ converted direction key number unit ⌝ }
 {
-    let tables = aes_steps::cipher_tables();
+    let tables = aes_tables::cipher_tables();
     let data = keys::data_keys(&tables, key);
     let tweak = keys::first_tweak(&tables, keys::tweak_keys(&tables, key), number);
     let mut into = unit;
@@ -48,7 +48,7 @@ fn convert_units(direction: Direction, key: [u8; 64], number: u64, from: &[u8], 
     requires { ⌜ number + length (now from) / 512 < 2 ^ 64 ⌝ }
     ensures { λ _. ⌜ now (into .exit) ≡ inUnits (converted direction key) (length (now (from .entry)) / 512) number (now (from .entry)) ⌝ }
 {
-    let tables = aes_steps::cipher_tables();
+    let tables = aes_tables::cipher_tables();
     let data = keys::data_keys(&tables, key);
     let tweak = keys::tweak_keys(&tables, key);
     let mut number = number;

@@ -2,7 +2,9 @@
 use mathlib.Core.Path.{_≡_, refl, ap, _∙_}
 use Prim.Native.Nat.{ℕ, _≤_}
 use native.Mathlib.Omega.{arith}
-use Rattle.aes_steps.specs.{SBox.ByTables, Blocks.{Words, invSubBytes, invShiftRows, addRoundKey}}
+use Rattle.aes_tables.specs.SBox.{ByTables}
+use Rattle.aes_words.specs.Words.{Words}
+use Rattle.aes_steps.specs.Blocks.{invSubBytes, invShiftRows, addRoundKey}
 use Rattle.aes.specs.Cipher.{roundKey, invRounds, invCipher}
 use Rattle.aes.proofs.RoundLaws.{after-inv-round}
 use borrow.Author.Needs.{needs}

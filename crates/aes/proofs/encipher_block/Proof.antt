@@ -2,7 +2,9 @@
 use mathlib.Core.Path.{_≡_, refl, ap, ap₂, _∙_}
 use Prim.Native.Nat.{_-_, _≤_}
 use native.Mathlib.Omega.{arith}
-use Rattle.aes_steps.specs.{SBox.ByTables, Blocks.{Words, subBytes, shiftRows, addRoundKey}}
+use Rattle.aes_tables.specs.SBox.{ByTables}
+use Rattle.aes_words.specs.Words.{Words}
+use Rattle.aes_steps.specs.Blocks.{subBytes, shiftRows, addRoundKey}
 use Rattle.aes.specs.Cipher.{roundKey, rounds, cipher}
 use Rattle.aes.proofs.RoundLaws.{after-round}
 use borrow.Author.Needs.{needs}

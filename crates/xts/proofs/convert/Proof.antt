@@ -1,7 +1,7 @@
 -- `xts::convert` meets its contract. Assumes nothing.
 use mathlib.Core.Path.{ap, ap₂, _∙_}
 use mathlib.Core.List.{List}
-use Rattle.aes_steps.specs.Blocks.{Words}
+use Rattle.aes_words.specs.Words.{Words}
 use Rattle.aes.specs.Cipher.{throughCipher}
 use Rattle.xts.specs.Units.{blocksUnder, firstTweak, convertedBy, converted}
 use borrow.Author.Needs.{needs}

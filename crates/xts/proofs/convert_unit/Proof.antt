@@ -6,7 +6,8 @@ use mathlib.Core.List.{List, _++_}
 use denote.Ref.{now}
 use lib.ListN.{length, take, drop}
 use Rattle.fields.proofs.OverlayLaws.{length-overlay}
-use Rattle.aes_steps.specs.Blocks.{Words, bytesOf}
+use Rattle.aes_words.specs.Words.{Words}
+use Rattle.aes_steps.specs.Blocks.{bytesOf}
 use Rattle.aes.specs.Cipher.{throughCipher}
 use Rattle.xts.specs.Units.{underTweak, blocksUnder}
 use Rattle.xts.proofs.UnitLaws.{next-block, blocks-done, length-bytes-of}

@@ -6,7 +6,7 @@ use mathlib.Core.List.{List, _++_}
 use denote.Ref.{now}
 use lib.ListN.{length, take, drop}
 use Rattle.fields.proofs.OverlayLaws.{length-overlay}
-use Rattle.aes_steps.specs.Blocks.{Words}
+use Rattle.aes_words.specs.Words.{Words}
 use Rattle.aes.specs.Cipher.{throughCipher}
 use Rattle.xts.specs.{Runs.inUnits, Units.{blocksUnder, convertedBy, converted}}
 use Rattle.xts.proofs.PieceLaws.{part-size, part-laid}

@@ -1,7 +1,8 @@
 -- `aes_steps::steps::inv_sub_bytes` meets its contract. Assumes nothing.
 use mathlib.Core.List.{[], _∷_}
 use Rattle.bits.specs.Bits.{entries}
-use Rattle.aes_steps.specs.Blocks.{byteAt, word, eachByte, block, invSubBytes}
+use Rattle.aes_steps.specs.Blocks.{byteAt, block, invSubBytes}
+use Rattle.aes_words.specs.Words.{word, eachByte}
 use borrow.Author.Needs.{needs}
 use Rattle.aes_steps.proofs.steps.inv_sub_bytes.Statement.{statement}
 use Rattle.aes_steps.proofs.steps.inv_sub_bytes.Tie as tie

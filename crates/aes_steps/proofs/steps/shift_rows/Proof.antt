@@ -1,7 +1,8 @@
 -- `aes_steps::steps::shift_rows` meets its contract. Assumes nothing.
 use mathlib.Core.Path.{refl}
 use Rattle.bits.specs.Bits.{entries}
-use Rattle.aes_steps.specs.Blocks.{byteAt, word, block, shiftRows}
+use Rattle.aes_steps.specs.Blocks.{byteAt, block, shiftRows}
+use Rattle.aes_words.specs.Words.{word}
 use borrow.Author.Needs.{needs}
 use Rattle.aes_steps.proofs.steps.shift_rows.Statement.{statement}
 use Rattle.aes_steps.proofs.steps.shift_rows.Tie as tie
@@ -17,7 +18,4 @@ shift-rows-spec =
     (λ c. search needs) (λ c. search needs) (λ c. search needs) (λ c. search needs) (λ c. search needs)
     (λ c. search needs) (λ c. search needs) (λ c. search needs) (λ c. search needs) (λ c. search needs)
     (λ c. search needs) (λ c. search needs) (λ c. search needs) (λ c. search needs) (λ c. search needs)
-    (λ c. search needs) (λ c. search needs) (λ c. search needs) (λ c. search needs) (λ c. search needs)
-    (λ c. search needs) (λ c. search needs) (λ c. search needs) (λ c. search needs) (λ c. search needs)
-    (λ c. search needs) (λ c. search needs) (λ c. search needs) (λ c. search needs) (λ c. search needs)
-    (λ c. search needs) (λ c. search needs) returns)
+    (λ c. search needs) (λ c. search needs) (λ c. search needs) (λ c. search needs) (λ c. search needs) returns)

@@ -1,7 +1,8 @@
 -- `aes_steps::steps::sub_bytes` meets its contract. Assumes nothing.
 use mathlib.Core.List.{[], _∷_}
 use Rattle.bits.specs.Bits.{entries}
-use Rattle.aes_steps.specs.{Blocks.{byteAt, word, eachByte, block, subBytes}, KeyExpansion.subWord}
+use Rattle.aes_steps.specs.Blocks.{byteAt, block, subBytes}
+use Rattle.aes_words.specs.Words.{word, eachByte, subWord}
 use borrow.Author.Needs.{needs}
 use Rattle.aes_steps.proofs.steps.sub_bytes.Statement.{statement}
 use Rattle.aes_steps.proofs.steps.sub_bytes.Tie as tie

@@ -5,7 +5,7 @@ use native.Mathlib.Omega.{arith}
 use mathlib.Core.List.{List, [], _∷_}
 use lib.{ListN.{take, drop}, Seq.drop-drop}
 use denote.Ref.{now}
-use Rattle.aes_steps.specs.Blocks.{inFours}
+use Rattle.aes_words.specs.Words.{inFours}
 use borrow.Author.Needs.{needs}
 use Rattle.xts.proofs.blocks.block_at.Statement.{statement}
 use Rattle.xts.proofs.blocks.block_at.Tie as tie

@@ -4,7 +4,8 @@ use Prim.Native.Nat.{ℕ}
 use lib.ListN.{getD}
 use mathlib.Core.List.{[], _∷_}
 use Rattle.bits.specs.Bits.{entries}
-use Rattle.aes_steps.specs.Blocks.{byteAt, word, block, blockByte}
+use Rattle.aes_steps.specs.Blocks.{byteAt, block, blockByte}
+use Rattle.aes_words.specs.Words.{word}
 use Rattle.xts.specs.Units.{raisedWord, alphaByte, timesAlpha}
 use borrow.Author.Needs.{needs}
 use Rattle.xts.proofs.blocks.times_alpha.Statement.{statement}

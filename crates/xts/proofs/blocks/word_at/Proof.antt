@@ -1,5 +1,5 @@
 -- `xts::blocks::word_at` meets its contract. Assumes nothing.
-use Rattle.aes_steps.proofs.FoursLaws.{four-at}
+use Rattle.aes_words.proofs.FoursLaws.{four-at}
 use borrow.Author.Needs.{needs}
 use Rattle.xts.proofs.blocks.word_at.Statement.{statement}
 use Rattle.xts.proofs.blocks.word_at.Tie as tie

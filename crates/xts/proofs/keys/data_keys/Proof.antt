@@ -4,7 +4,7 @@ use Prim.Native.Nat.{ℕ}
 use native.Mathlib.Omega.{arith}
 use mathlib.Core.List.{List}
 use lib.{ListN.length, Seq.length-take-le}
-use Rattle.aes_steps.specs.KeyExpansion.{roundKeys}
+use Rattle.key_expansion.specs.KeyExpansion.{roundKeys}
 use Rattle.xts.specs.Units.{dataKeys}
 use borrow.Author.Needs.{needs}
 use Rattle.xts.proofs.keys.data_keys.Statement.{statement}

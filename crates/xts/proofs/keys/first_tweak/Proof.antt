@@ -1,6 +1,6 @@
 -- `xts::keys::first_tweak` meets its contract. Assumes nothing.
 use mathlib.Core.Path.{ap, _∙_}
-use Rattle.aes_steps.specs.Blocks.{inFours}
+use Rattle.aes_words.specs.Words.{inFours}
 use Rattle.aes.specs.Cipher.{cipher, throughCipher}
 use Rattle.xts.specs.Units.{tweakBytes, firstTweak}
 use borrow.Author.Needs.{needs}

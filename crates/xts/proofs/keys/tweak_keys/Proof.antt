@@ -4,7 +4,7 @@ use Prim.Native.Nat.{ℕ}
 use native.Mathlib.Omega.{arith}
 use mathlib.Core.List.{List}
 use lib.{ListN.{length, drop, length-drop}, Seq.take-all}
-use Rattle.aes_steps.specs.KeyExpansion.{roundKeys}
+use Rattle.key_expansion.specs.KeyExpansion.{roundKeys}
 use Rattle.xts.specs.Units.{tweakKeys}
 use borrow.Author.Needs.{needs}
 use Rattle.xts.proofs.keys.tweak_keys.Statement.{statement}

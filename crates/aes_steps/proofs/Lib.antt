@@ -1,4 +1,0 @@
-pub mod ExpansionLaws
-pub mod FieldLaws
-pub mod FoursLaws
-pub mod TableLaws
