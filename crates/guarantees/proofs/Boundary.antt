@@ -20,7 +20,7 @@ use Rattle.guarantees.specs.Boundary.{TellsNumbers, ReturnsZero, OrdersN
 use Rattle.guarantees.proofs.BoundaryNumbers.{view-of-numbers, set-last}
 use Rattle.guarantees.proofs.BoundaryZero.{located-zero, opened-zero, header-zero, host-sector-zero, user-sector-zero}
 use Rattle.guarantees.proofs.BoundaryZero.{plain-view-zero, protected-view-zero, read-zero, write-zero}
-use Rattle.guarantees.proofs.Reflects.{is-false, reflects-eqb}
+use Rattle.header_claims.proofs.Reflects.{is-false, reflects-eqb}
 
 pub tells-numbers : TellsNumbers
 unfolding openedRefusal numberedRefusal viewedRefusal writtenRefusal answerRefusal placementRefusal

@@ -12,10 +12,11 @@ use Rattle.model.proofs.RunLaws.{run-exists, run-carries}
 use Rattle.model.proofs.SideLaws.{on-side-exists, on-side-carries}
 use Rattle.guarantees.specs.Boundary.{storedLayout, storedProtection}
 use Rattle.guarantees.specs.BoundaryRuns.{KeyedNumbers, Numbers, Thirteen, keyedFrom, told, Said, replyTold, storedFor, NumberStep, CarriesRuns, BeginsRuns}
-use Rattle.guarantees.specs.{Interleaving.{sideView, sideKey, sideKeyed}, Steps.Step, Table.Call, Views.{plain, protecting}}
+use Rattle.guarantees.specs.{Interleaving.{sideView, sideKey, sideKeyed}, Steps.Step}
+use Rattle.access_claims.specs.{Table.Call, Views.{plain, protecting}}
 use Rattle.guarantees.proofs.Boundary.{stores-answers}
 use Rattle.guarantees.proofs.NumberSteps.{step-is, answered}
-use Rattle.guarantees.proofs.Views.{makes-views}
+use Rattle.access_claims.proofs.Views.{makes-views}
 
 step-exists : (state : State KeyedNumbers) (call : Call) → (given : Reply Said) × (after : State KeyedNumbers) × NumberStep state call given after
 step-exists state call = let one = answered state call (0 ∷ []) in (one .0, one .1, (0 ∷ [], one .2))

@@ -21,13 +21,14 @@ use Rattle.protection.specs.declared.Pairing.the-variants as pairing
 use Rattle.header_writing.specs.{HeaderWriting.writtenRefusal, declared.Written.Written}
 use Rattle.header_writing.specs.declared.Written.the-variants as writing
 use Rattle.header_writing.proofs.AnswerLaws.{refused-done}
-use Rattle.guarantees.specs.{Boundary.ZeroAccepts, Header.number, Opening.{Lengths, Codes, HostSize}, Writing.{Request, answerTo, Check, refusalOf}}
-use Rattle.guarantees.specs.Writing.{rightLengths, knownMagic, knownCode, allowedHost, supportedVersion, allowedSectors, allowedArea}
-use Rattle.guarantees.proofs.Reflects.{Reflects, holds, fails}
-use Rattle.guarantees.proofs.RuleReflections.{lengths-reflects, codes-reflects, host-size-reflects}
-use Rattle.guarantees.proofs.JudgementLaws.{number-bounds}
-use Rattle.guarantees.proofs.FirstAcceptedLaws.{Found, anAccepted, aHeader, noHeader, search-says}
-use Rattle.guarantees.proofs.WritesExactly.{writes-exactly}
+use Rattle.guarantees.specs.Boundary.{ZeroAccepts}
+use Rattle.header_claims.specs.{Header.number, Opening.{Lengths, Codes, HostSize}, Writing.{Request, answerTo, Check, refusalOf}}
+use Rattle.header_claims.specs.Writing.{rightLengths, knownMagic, knownCode, allowedHost, supportedVersion, allowedSectors, allowedArea}
+use Rattle.header_claims.proofs.Reflects.{Reflects, holds, fails}
+use Rattle.header_claims.proofs.RuleReflections.{lengths-reflects, codes-reflects, host-size-reflects}
+use Rattle.header_claims.proofs.JudgementLaws.{number-bounds}
+use Rattle.header_claims.proofs.FirstAcceptedLaws.{Found, anAccepted, aHeader, noHeader, search-says}
+use Rattle.header_claims.proofs.WritesExactly.{writes-exactly}
 
 -- answers of any kind whose acceptances have the number 0
 module _ {A R : Type 0} {number : R → ℕ} {accepted : A → R} where

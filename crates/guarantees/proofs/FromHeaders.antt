@@ -5,12 +5,14 @@ use mathlib.Core.{Path.{_≡_, sym, _∙_, subst}, List.{List, [], _∷_}}
 use lib.{ListN.length, Seq.take-all}
 use Rattle.layout.specs.declared.{Layout.Layout, Opened.the-variants.Accepted}
 use Rattle.opening.specs.Opening.{opened}
-use Rattle.guarantees.specs.{FromHeaders.{HasArea, FromHeaders}, Header.Tells}
-use Rattle.guarantees.specs.{Opening.{candidate, kindOf, TellsAt}, Views.Nested}
+use Rattle.guarantees.specs.FromHeaders.{HasArea, FromHeaders}
+use Rattle.header_claims.specs.Header.{Tells}
+use Rattle.header_claims.specs.Opening.{candidate, kindOf, TellsAt}
+use Rattle.access_claims.specs.Views.{Nested}
 use Rattle.guarantees.proofs.Interleaving.{demand-3}
-use Rattle.guarantees.proofs.Opening.{opens-exactly-when}
-use Rattle.guarantees.proofs.SectorMap.{opened-sound}
-use Rattle.guarantees.proofs.Views.{makes-views}
+use Rattle.header_claims.proofs.Opening.{opens-exactly-when}
+use Rattle.header_claims.proofs.SectorMap.{opened-sound}
+use Rattle.access_claims.proofs.Views.{makes-views}
 
 -- of one candidate, the first is all of it
 one-candidate : (h : List ℕ) → length h ≡ 512 → candidate h 0 ≡ h

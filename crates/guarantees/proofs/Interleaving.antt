@@ -12,10 +12,11 @@ use Rattle.model.proofs.Lawful.{sided-lawful}
 use Rattle.model.proofs.RunLaws.{Models, run-exists, run-agrees, run-last-write, run-reads-left}
 use Rattle.model.proofs.SideLaws.{at-each, sided-models, on-side-exists}
 use Rattle.guarantees.specs.Interleaving.{sideLayout, sideProtection, sideView, sideKey, sideKeyed, sideRules, bothRules, Interleaved, Demand3}
-use Rattle.guarantees.specs.{InTheWay.{NamesFirst, NamesSectors}, ReferenceModel.{isWrite, inRange, viewRules}, Steps.{KeepsContract, Step}}
-use Rattle.guarantees.specs.{Table.{Operation, reads, writes, Form, raw, plaintext, Call}, Views.area}
-use Rattle.guarantees.proofs.InTheWay.{names-sectors}
-use Rattle.guarantees.proofs.NestLaws.{Nest, plain-sound, protecting-sound}
+use Rattle.access_claims.specs.{InTheWay.{NamesFirst, NamesSectors}, ReferenceModel.{isWrite, inRange, viewRules}}
+use Rattle.guarantees.specs.Steps.{KeepsContract, Step}
+use Rattle.access_claims.specs.{Table.{Operation, reads, writes, Form, raw, plaintext, Call}, Views.area}
+use Rattle.access_claims.proofs.InTheWay.{names-sectors}
+use Rattle.access_claims.proofs.NestLaws.{Nest, plain-sound, protecting-sound}
 use Rattle.guarantees.proofs.ViewRulesLaws.{sides-lawful, sides-apart}
 use Rattle.guarantees.proofs.StepLaws.{view-models, step-exists}
 

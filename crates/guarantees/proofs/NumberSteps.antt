@@ -8,7 +8,8 @@ use Rattle.boundary_numbers.specs.BoundaryNumbers.{viewFrom}
 use Rattle.boundary_access.specs.BoundaryAccess.{viewLeft, Tells}
 use Rattle.model.specs.Model.{State, stateWith, Reply}
 use Rattle.guarantees.specs.BoundaryRuns.{KeyedNumbers, keyedFrom, Said, answerSaid, replyTold, KeepsNumberContract, KeepsNumberCall}
-use Rattle.guarantees.specs.{Steps.KeepsContract, Table.{Operation, reads, writes, Form, raw, plaintext, Call}}
+use Rattle.guarantees.specs.Steps.{KeepsContract}
+use Rattle.access_claims.specs.Table.{Operation, reads, writes, Form, raw, plaintext, Call}
 use Rattle.guarantees.proofs.BoundaryNumbers.{view-of-left}
 use Rattle.guarantees.proofs.SaidLaws.{length-left, read-told, write-told, told-back}
 

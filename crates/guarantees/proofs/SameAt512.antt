@@ -19,7 +19,7 @@ use Rattle.header_writing.specs.HeaderWriting.{headerAnswer}
 use Rattle.protection.specs.Protection.{protectionRule, soundProtection, nests, paired}
 use Rattle.protection.specs.declared.Protection.{Protection}
 use Rattle.judgement.specs.Judging.{alignmentRule, blockedBy, endAnswer, checked, lockAnswer, readAnswer, writeAnswer}
-use Rattle.guarantees.specs.{Header.fieldsAt, Opening.candidate}
+use Rattle.header_claims.specs.{Header.fieldsAt, Opening.candidate}
 use Rattle.guarantees.specs.SameAt512.{dataAreaBefore, soundBefore, pairedBefore, judgeBefore, judgementsBefore, openedBefore}
 use Rattle.guarantees.specs.SameAt512.{headerAnswerBefore, newFieldsBefore, checkedBefore, LayoutAt512, SameAt512}
 

@@ -10,11 +10,12 @@ use Rattle.plaintext.specs.declared.KeyedView.{KeyedView}
 use Rattle.protection.specs.declared.Protection.{Protection}
 use Rattle.model.specs.Model.{Rules, State, stateWith, Reply, judged, bufferAfter, imageAfter, reply, next}
 use Rattle.model.proofs.RunLaws.{Agrees, Models}
-use Rattle.guarantees.specs.ReferenceModel.{isWrite, firstProtected, lockLeft, viewRules}
-use Rattle.guarantees.specs.{Steps.{KeepsContract, Step}, Table.{Operation, reads, writes, Form, raw, plaintext, Call}, Views.SoundView}
-use Rattle.guarantees.proofs.Access.{accesses-by-table}
-use Rattle.guarantees.proofs.Plaintext.{plaintext-by-table}
-use Rattle.guarantees.proofs.TableLaws.{read-lock}
+use Rattle.access_claims.specs.ReferenceModel.{isWrite, firstProtected, lockLeft, viewRules}
+use Rattle.guarantees.specs.Steps.{KeepsContract, Step}
+use Rattle.access_claims.specs.{Table.{Operation, reads, writes, Form, raw, plaintext, Call}, Views.SoundView}
+use Rattle.access_claims.proofs.Access.{accesses-by-table}
+use Rattle.access_claims.proofs.Plaintext.{plaintext-by-table}
+use Rattle.access_claims.proofs.TableLaws.{read-lock}
 
 module _ (layout : Layout) (protection : Protection) (key : List ℕ) where
   abbrev pub viewWith : Bool → View

@@ -10,14 +10,15 @@ use Rattle.model.specs.Sides.{Side, outer, hidden}
 use Rattle.model.proofs.Lawful.{Every, Fitting, Lawful}
 use Rattle.model.proofs.Sameness.{Apart}
 use Rattle.guarantees.specs.Interleaving.{sideLayout, sideProtection, sideRules}
-use Rattle.guarantees.specs.{ReferenceModel.{inRange, firstProtected, hostsOf, viewRules}, SectorMap.Sound}
-use Rattle.guarantees.specs.{Table.Call, Views.area}
-use Rattle.guarantees.proofs.CoversLaws.{consecutive, length-consecutive, every-consecutive, distinct-consecutive}
-use Rattle.guarantees.proofs.ExtentLaws.{covers-extent}
-use Rattle.guarantees.proofs.FormLaws.{stored-sized, shown-sized}
-use Rattle.guarantees.proofs.RangeLaws.{each-outside}
-use Rattle.guarantees.proofs.SoundLaws.{sound-on-sectors}
-use Rattle.guarantees.proofs.TableLaws.{Fits, tabled-accepted, later-untouched}
+use Rattle.access_claims.specs.ReferenceModel.{inRange, firstProtected, hostsOf, viewRules}
+use Rattle.header_claims.specs.SectorMap.{Sound}
+use Rattle.access_claims.specs.{Table.Call, Views.area}
+use Rattle.access_claims.proofs.CoversLaws.{consecutive, length-consecutive, every-consecutive, distinct-consecutive}
+use Rattle.access_claims.proofs.ExtentLaws.{covers-extent}
+use Rattle.access_claims.proofs.FormLaws.{stored-sized, shown-sized}
+use Rattle.access_claims.proofs.RangeLaws.{each-outside}
+use Rattle.header_claims.proofs.SoundLaws.{sound-on-sectors}
+use Rattle.access_claims.proofs.TableLaws.{Fits, tabled-accepted, later-untouched}
 
 module _ (layout : Layout) (s : Sound layout) (size : ℕ) (call : Call) (fits : Fits layout size call) where
   -- the first host sector of the extent

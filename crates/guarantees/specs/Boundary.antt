@@ -23,7 +23,7 @@ use Rattle.making.specs.declared.Viewed.the-variants as making
 use Rattle.boundary_numbers.specs.BoundaryNumbers.{layoutFrom, viewFrom, numberedLeft, openedLeft, viewedLeft, blockLeft}
 use Rattle.boundary_opening.specs.BoundaryOpening.{keysLeft}
 use Rattle.boundary_access.specs.BoundaryAccess.{offsetLeft, Tells, WriteCall}
-use Rattle.guarantees.specs.Writing.{Request, answerTo}
+use Rattle.header_claims.specs.Writing.{Request, answerTo}
 
 -- every refusal is told by its own number, and every acceptance by 0
 pub record TellsNumbers : Type 0 where

@@ -12,8 +12,9 @@ use Rattle.boundary_numbers.specs.BoundaryNumbers.{viewFrom, viewedLeft}
 use Rattle.boundary_access.specs.BoundaryAccess.{ReadCall, WriteCall}
 use Rattle.boundary_plaintext.specs.BoundaryPlaintext.{PlainReadCall, PlainWriteCall}
 use Rattle.model.specs.{Model.{State, stateWith, Reply}, Runs.Run, Sides.{Side, Turn, Both, at, eachWith, OnSide}}
-use Rattle.guarantees.specs.{Interleaving.viewsOf, SectorMap.Sound, Steps.Step}
-use Rattle.guarantees.specs.{Table.{Operation, reads, writes, Form, raw, plaintext, Call}, Views.Nested}
+use Rattle.guarantees.specs.{Interleaving.viewsOf, Steps.Step}
+use Rattle.header_claims.specs.SectorMap.{Sound}
+use Rattle.access_claims.specs.{Table.{Operation, reads, writes, Form, raw, plaintext, Call}, Views.Nested}
 
 -- a view's numbers, and its key
 pub record KeyedNumbers : Type 0 where

@@ -6,14 +6,21 @@ use Rattle.layout.specs.declared.Layout.{Layout}
 use Rattle.protection.specs.declared.Protection.{Protection}
 use Rattle.view.specs.declared.View.{View}
 use Rattle.plaintext.specs.declared.KeyedView.{KeyedView}
-use Rattle.guarantees.specs.{Access.AccessesByTable, Boundary.{TellsNumbers, ReturnsZero, OrdersNumbers, StoresAnswers}}
-use Rattle.guarantees.specs.{BoundaryRuns.{Numbers, CarriesRuns, BeginsRuns}, Enciphering.{KeepsField, EnciphersExactly, SpellsTweaks, TweaksSectors}}
-use Rattle.guarantees.specs.Extents.{SharesLeast, EndsBy}
-use Rattle.guarantees.specs.{FromHeaders.FromHeaders, InTheWay.NamesSectors, Interleaving.Demand3, Judging.{KeepsRules, JudgesExactly, GivesKeys}}
-use Rattle.guarantees.specs.{MapProgram.{ReadsInput, PrintsLines}, Numbers.{SpellsNumbers, ChecksBytes}}
-use Rattle.guarantees.specs.{Opening.{OpensExactlyWhen, LocatesHeaders}, Parts.KeepsParts, Placing.{PlacesExtents, PlacesNumbers}}
-use Rattle.guarantees.specs.{Plaintext.{PlaintextByTable, GivesBack, TellsAsRaw}, SameAt512.SameAt512, SectorMap.{MapsExactly, OpenedIsSound}, Views.MakesViews}
-use Rattle.guarantees.specs.Writing.{Request, WritesExactly, LaysHeaders, ReadsBack, WritesAgain}
+use Rattle.access_claims.specs.Access.{AccessesByTable}
+use Rattle.guarantees.specs.Boundary.{TellsNumbers, ReturnsZero, OrdersNumbers, StoresAnswers}
+use Rattle.guarantees.specs.BoundaryRuns.{Numbers, CarriesRuns, BeginsRuns}
+use Rattle.access_claims.specs.Enciphering.{KeepsField, EnciphersExactly, SpellsTweaks, TweaksSectors}
+use Rattle.access_claims.specs.Extents.{SharesLeast, EndsBy}
+use Rattle.guarantees.specs.{FromHeaders.FromHeaders, Interleaving.Demand3}
+use Rattle.access_claims.specs.InTheWay.{NamesSectors}
+use Rattle.header_claims.specs.Judging.{KeepsRules, JudgesExactly, GivesKeys}
+use Rattle.header_claims.specs.{MapProgram.{ReadsInput, PrintsLines}, Numbers.{SpellsNumbers, ChecksBytes}}
+use Rattle.header_claims.specs.Opening.{OpensExactlyWhen, LocatesHeaders}
+use Rattle.access_claims.specs.{Parts.KeepsParts, Placing.{PlacesExtents, PlacesNumbers}}
+use Rattle.access_claims.specs.{Plaintext.{PlaintextByTable, GivesBack, TellsAsRaw}, Views.MakesViews}
+use Rattle.guarantees.specs.SameAt512.{SameAt512}
+use Rattle.header_claims.specs.SectorMap.{MapsExactly, OpenedIsSound}
+use Rattle.header_claims.specs.Writing.{Request, WritesExactly, LaysHeaders, ReadsBack, WritesAgain}
 
 pub record Claims : Type 0 where
   -- what the others are stated in

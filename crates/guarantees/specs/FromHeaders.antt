@@ -7,8 +7,10 @@ use Rattle.opening.specs.Opening.{opened}
 use Rattle.making.specs.Views.{plainView, protectedView}
 use Rattle.making.specs.declared.Viewed.the-variants.{Made}
 use Rattle.model.specs.{Model.State, Sides.Both}
-use Rattle.guarantees.specs.{Header.fieldsAt, Interleaving.Interleaved, Opening.kindOf, Table.Call}
-use Rattle.guarantees.specs.Views.{plain, protecting}
+use Rattle.header_claims.specs.{Header.fieldsAt, Opening.kindOf}
+use Rattle.guarantees.specs.Interleaving.{Interleaved}
+use Rattle.access_claims.specs.Table.{Call}
+use Rattle.access_claims.specs.Views.{plain, protecting}
 
 -- a layout has the host, and the data area that a header tells
 pub record HasArea (hostSize : ℕ) (h : List ℕ) (layout : Layout) : Type 0 where

@@ -11,8 +11,10 @@ use Rattle.view.specs.declared.View.{View}
 use Rattle.plaintext.specs.declared.KeyedView.{KeyedView}
 use Rattle.model.specs.{Model.{Rules, State, stateWith, Reply, replies, final, contents}, Runs.Run, Sectors.{sectorAt, gather}}
 use Rattle.model.specs.Sides.{Side, outer, hidden, Turn, Interleaves, Both, at, eachWith, OnSide, sided, bySide, unprotected}
-use Rattle.guarantees.specs.{InTheWay.NamesFirst, ReferenceModel.{inRange, hostsOf, shownAs, viewRules}, SectorMap.Sound}
-use Rattle.guarantees.specs.{Steps.Step, Table.{reads, Call}, Views.{area, plain, protecting, Nested}}
+use Rattle.access_claims.specs.{InTheWay.NamesFirst, ReferenceModel.{inRange, hostsOf, shownAs, viewRules}}
+use Rattle.header_claims.specs.SectorMap.{Sound}
+use Rattle.guarantees.specs.Steps.{Step}
+use Rattle.access_claims.specs.{Table.{reads, Call}, Views.{area, plain, protecting, Nested}}
 
 module _ (outerLayout hiddenLayout : Layout) (outerKey hiddenKey : List ℕ) where
   -- the layout of a side

@@ -21,7 +21,7 @@ use Rattle.protection.specs.Protection.{areaEnd, protectionRule, paired}
 use Rattle.protection.specs.declared.{Pairing.Pairing, Protection.Protection}
 use Rattle.protection.specs.declared.Pairing.the-variants as pairing
 use Rattle.judgement.specs.Judging.{endAnswer, lockAnswer, readAnswer, writeAnswer}
-use Rattle.guarantees.specs.{Header.fieldsAt, Opening.candidate}
+use Rattle.header_claims.specs.{Header.fieldsAt, Opening.candidate}
 
 -- the data area: whole sectors of 512 bytes, at least one, where its kind's may lie
 unfoldable pub dataAreaBefore : Layout → Bool

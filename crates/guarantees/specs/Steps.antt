@@ -6,7 +6,7 @@ use Rattle.answers.specs.declared.Answer.{Answer}
 use Rattle.view.specs.Outcomes.{ReadPost, WritePost}
 use Rattle.plaintext.specs.{Plaintext.{PlainReadPost, PlainWritePost}, declared.KeyedView.KeyedView}
 use Rattle.model.specs.Model.{State, Reply}
-use Rattle.guarantees.specs.Table.{Operation, reads, writes, Form, raw, plaintext, Call}
+use Rattle.access_claims.specs.Table.{Operation, reads, writes, Form, raw, plaintext, Call}
 
 -- a call that keeps its contract, by its form and what it does: a read leaves the image, a write its buffer; a raw one is of the view
 -- alone, and leaves the key

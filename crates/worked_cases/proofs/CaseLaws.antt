@@ -14,7 +14,7 @@ use Rattle.view.specs.Outcomes.{after}
 use Rattle.making.specs.Views.{plainOf, protectedOf, madeBy, plainView, protectedView}
 use Rattle.map_output.specs.Decimal.{digits, decimal}
 use Rattle.map_output.specs.MapOutput.{textLine, numberLine, eitherLine, magicLine, kindLine, headerLines, areaLines, sectorLines, lastSector, layoutLines}
-use Rattle.guarantees.specs.MapProgram.{letters}
+use Rattle.header_claims.specs.MapProgram.{letters}
 use Rattle.worked_headers.specs.Openings.{openingCases}
 use Rattle.worked_headers.proofs.OpeningRows.{opening-rows}
 use Rattle.worked_sectors.specs.SectorSizes.{sectorSizeCases}

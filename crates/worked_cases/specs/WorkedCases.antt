@@ -16,7 +16,7 @@ use Rattle.view.specs.declared.View.{View}
 use Rattle.making.specs.declared.Viewed.{Viewed}
 use Rattle.making.specs.declared.Viewed.the-variants as viewed
 use Rattle.map_output.specs.MapOutput.{layoutLines}
-use Rattle.guarantees.specs.MapProgram.{letters}
+use Rattle.header_claims.specs.MapProgram.{letters}
 use Rattle.worked_headers.specs.Openings.{openingCases}
 use Rattle.worked_sectors.specs.SectorSizes.{sectorSizeCases}
 use Rattle.worked_cipher.specs.Units.{cipherCases}

@@ -1,26 +1,26 @@
 -- `guarantees::demands` meets its contract: every claim has its proof. Assumes nothing.
-use Rattle.guarantees.proofs.Access.{accesses-by-table}
+use Rattle.access_claims.proofs.Access.{accesses-by-table}
 use Rattle.guarantees.proofs.Boundary.{tells-numbers, returns-zero, orders-numbers, stores-answers}
 use Rattle.guarantees.proofs.BoundaryRuns.{carries-runs, begins-runs}
-use Rattle.guarantees.proofs.Enciphering.{keeps-field, enciphers-exactly, spells-tweaks, tweaks-sectors}
-use Rattle.guarantees.proofs.Extents.{shares-least, ends-by}
+use Rattle.access_claims.proofs.Enciphering.{keeps-field, enciphers-exactly, spells-tweaks, tweaks-sectors}
+use Rattle.access_claims.proofs.Extents.{shares-least, ends-by}
 use Rattle.guarantees.proofs.FromHeaders.{from-headers}
-use Rattle.guarantees.proofs.InTheWay.{names-sectors}
+use Rattle.access_claims.proofs.InTheWay.{names-sectors}
 use Rattle.guarantees.proofs.Interleaving.{demand-3}
-use Rattle.guarantees.proofs.Judging.{keeps-rules, judges-exactly, gives-keys}
-use Rattle.guarantees.proofs.LaysHeaders.{lays-headers}
-use Rattle.guarantees.proofs.MapProgram.{reads-input, prints-lines}
-use Rattle.guarantees.proofs.Numbers.{spells-numbers, checks-bytes}
-use Rattle.guarantees.proofs.Opening.{opens-exactly-when, locates-headers}
-use Rattle.guarantees.proofs.Parts.{keeps-parts}
-use Rattle.guarantees.proofs.Placing.{places-extents, places-numbers}
-use Rattle.guarantees.proofs.Plaintext.{gives-back, plaintext-by-table, tells-as-raw}
-use Rattle.guarantees.proofs.ReadsBack.{reads-back}
+use Rattle.header_claims.proofs.Judging.{keeps-rules, judges-exactly, gives-keys}
+use Rattle.header_claims.proofs.LaysHeaders.{lays-headers}
+use Rattle.header_claims.proofs.MapProgram.{reads-input, prints-lines}
+use Rattle.header_claims.proofs.Numbers.{spells-numbers, checks-bytes}
+use Rattle.header_claims.proofs.Opening.{opens-exactly-when, locates-headers}
+use Rattle.access_claims.proofs.Parts.{keeps-parts}
+use Rattle.access_claims.proofs.Placing.{places-extents, places-numbers}
+use Rattle.access_claims.proofs.Plaintext.{gives-back, plaintext-by-table, tells-as-raw}
+use Rattle.header_claims.proofs.ReadsBack.{reads-back}
 use Rattle.guarantees.proofs.SameAt512.{same-at-512}
-use Rattle.guarantees.proofs.SectorMap.{maps-exactly, opened-sound}
-use Rattle.guarantees.proofs.Views.{makes-views}
-use Rattle.guarantees.proofs.WritesAgain.{writes-again}
-use Rattle.guarantees.proofs.WritesExactly.{writes-exactly}
+use Rattle.header_claims.proofs.SectorMap.{maps-exactly, opened-sound}
+use Rattle.access_claims.proofs.Views.{makes-views}
+use Rattle.header_claims.proofs.WritesAgain.{writes-again}
+use Rattle.header_claims.proofs.WritesExactly.{writes-exactly}
 use Rattle.guarantees.proofs.demands.Statement.{statement}
 use Rattle.guarantees.proofs.demands.Tie as tie
 

@@ -1,0 +1,16 @@
+pub mod Access
+pub mod CoversLaws
+pub mod Enciphering
+pub mod ExtentLaws
+pub mod Extents
+pub mod FormLaws
+pub mod InTheWay
+pub mod NestLaws
+pub mod Parts
+pub mod Placing
+pub mod Plaintext
+pub mod RangeLaws
+pub mod TableLaws
+pub mod ViewLaws
+pub mod Views
+pub mod WalkLaws

@@ -1,0 +1,10 @@
+pub mod Access
+pub mod Enciphering
+pub mod Extents
+pub mod InTheWay
+pub mod Parts
+pub mod Placing
+pub mod Plaintext
+pub mod ReferenceModel
+pub mod Table
+pub mod Views
