@@ -13,7 +13,7 @@ use Rattle.access.specs.Moving.{filledBy, writtenBy}
 use Rattle.access.proofs.MovingLaws.{filled-accepted, written-accepted}
 use Rattle.view.specs.{Outcomes.{after, readPlaced, writePlaced}, declared.View.View}
 use Rattle.boundary_numbers.specs.BoundaryNumbers.{viewFrom}
-use Rattle.boundary_access.specs.BoundaryAccess.{offsetLeft}
+use Rattle.boundary_extents.specs.BoundaryExtents.{offsetLeft}
 use Rattle.access_claims.specs.Placing.{taken, stored, PlacesExtents, PlacesNumbers}
 use Rattle.access_claims.proofs.TableLaws.{lock-left}
 

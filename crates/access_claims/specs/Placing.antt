@@ -8,7 +8,8 @@ use Rattle.answers.specs.declared.Answer.the-variants as answer
 use Rattle.answers.specs.declared.Placement.the-variants.{Offset, Refused, RefusedAt}
 use Rattle.view.specs.Outcomes.{readPlaced, writePlaced}
 use Rattle.view.specs.declared.{Placed.Placed, View.View}
-use Rattle.boundary_access.specs.BoundaryAccess.{ReadCall, WriteCall, ReadExtentCall, WriteExtentCall}
+use Rattle.boundary_access.specs.BoundaryAccess.{ReadCall, WriteCall}
+use Rattle.boundary_extents.specs.BoundaryExtents.{ReadExtentCall, WriteExtentCall}
 use Rattle.access_claims.specs.{Access.{readBy, writeBy, filledWith, writtenWith}, ReferenceModel.lockLeft}
 
 -- bytes stored in an image from an offset on

@@ -4,7 +4,8 @@
 ghost use mathlib.Core.Path.{_≡_};
 ghost use Rattle.answers.specs.Answers.{numberedRefusal};
 ghost use Rattle.sector_map.specs.SectorMap.{hostSector, userSector, tweakOf};
-ghost use Rattle.boundary_numbers.specs.BoundaryNumbers.{layoutFrom, numberedLeft, blockLeft};
+ghost use Rattle.boundary_numbers.specs.BoundaryNumbers.{layoutFrom, blockLeft};
+ghost use Rattle.boundary_answers.specs.BoundaryAnswers.{numberedLeft};
 use answers::Numbered;
 use boundary_numbers::LAYOUT_SIZE;
 use sector_map::Tweak;
@@ -15,7 +16,7 @@ pub fn host_sector(layout: &[u64; LAYOUT_SIZE], user: u64, host: &mut [u64; 1]) 
     ensures { λ _. ⌜ now (host .exit) ≡ numberedLeft (hostSector (layoutFrom (now (layout .entry))) user) (now (host .entry)) ⌝ }
 {
     let told = boundary_numbers::layout_from(layout);
-    boundary_numbers::give_number(sector_map::host_sector(told, user), host)
+    boundary_answers::give_number(sector_map::host_sector(told, user), host)
 }
 
 // The user sector that a host sector holds.
@@ -24,7 +25,7 @@ pub fn user_sector(layout: &[u64; LAYOUT_SIZE], host: u64, user: &mut [u64; 1]) 
     ensures { λ _. ⌜ now (user .exit) ≡ numberedLeft (userSector (layoutFrom (now (layout .entry))) host) (now (user .entry)) ⌝ }
 {
     let told = boundary_numbers::layout_from(layout);
-    boundary_numbers::give_number(sector_map::user_sector(told, host), user)
+    boundary_answers::give_number(sector_map::user_sector(told, host), user)
 }
 
 // The tweak block of a user sector.

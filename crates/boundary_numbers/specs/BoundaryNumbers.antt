@@ -63,11 +63,7 @@ viewFrom numbers =
       locked = not (eqb (getD numbers lockIndex 0) 0);
     }
 
--- what a call leaves: on an acceptance the number, the layout's numbers, the view's or the tweak's block, on a refusal what was there
-unfoldable pub numberedLeft : Numbered → List ℕ → List ℕ
-numberedLeft (numbered.Number number) before = number ∷ []
-numberedLeft (numbered.Refused number) before = before
-
+-- what a call leaves: on an acceptance the layout's numbers, the view's or the tweak's block, on a refusal what was there
 unfoldable pub openedLeft : Opened → List ℕ → List ℕ
 openedLeft (opened.Accepted layout) before = layoutNumbers layout
 openedLeft (opened.Refused number) before = before

@@ -6,12 +6,10 @@ ghost use mathlib.Core.Path.{_≡_};
 ghost use mathlib.Core.List.{_++_};
 ghost use Prim.Native.Nat.{_≤_};
 ghost use lib.ListN.{length, drop};
-ghost use Rattle.answers.specs.Answers.{numberedRefusal};
 ghost use Rattle.layout.specs.Opened.{openedRefusal};
 ghost use Rattle.making.specs.Views.{viewedRefusal};
 ghost use Rattle.boundary_numbers.specs.BoundaryNumbers.{layoutSize, layoutNumbers, layoutFrom, protectionNumbers, protectionFrom};
-ghost use Rattle.boundary_numbers.specs.BoundaryNumbers.{viewNumbers, viewFrom, numberedLeft, openedLeft, viewedLeft};
-use answers::Numbered;
+ghost use Rattle.boundary_numbers.specs.BoundaryNumbers.{viewNumbers, viewFrom, openedLeft, viewedLeft};
 use layout::Layout;
 use layout::Opened;
 use making::Viewed;
@@ -48,20 +46,6 @@ pub fn view_from(numbers: &[u64; VIEW_SIZE]) -> View
         layout: read_layout(numbers),
         protection: protection_from(numbers[PROTECTED], numbers[FIRST], numbers[END]),
         locked: numbers[LOCK] != 0,
-    }
-}
-
-// Stores a number that was asked for.
-pub fn give_number(answer: Numbered, place: &mut [u64; 1]) -> u64
-    ensures { λ r. ⌜ r ≡ numberedRefusal answer ⌝ }
-    ensures { λ _. ⌜ now (place .exit) ≡ numberedLeft answer (now (place .entry)) ⌝ }
-{
-    match answer {
-        Numbered::Number(number) => {
-            *place = [number];
-            0
-        }
-        Numbered::Refused(number) => number as u64,
     }
 }
 

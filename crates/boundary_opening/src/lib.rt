@@ -7,7 +7,8 @@ ghost use Rattle.answers.specs.Answers.{numberedRefusal};
 ghost use Rattle.layout.specs.Opened.{openedRefusal};
 ghost use Rattle.locations.specs.Locations.{located};
 ghost use Rattle.opening.specs.Opening.{opened, keysOffset};
-ghost use Rattle.boundary_numbers.specs.BoundaryNumbers.{numberedLeft, openedLeft};
+ghost use Rattle.boundary_answers.specs.BoundaryAnswers.{numberedLeft};
+ghost use Rattle.boundary_numbers.specs.BoundaryNumbers.{openedLeft};
 ghost use Rattle.boundary_opening.specs.BoundaryOpening.{keysLeft};
 use boundary_numbers::LAYOUT_SIZE;
 use layout::Opened;
@@ -17,7 +18,7 @@ pub fn location(code: u8, host_size: u64, offset: &mut [u64; 1]) -> u64
     ensures { λ r. ⌜ r ≡ numberedRefusal (located code «host_size») ⌝ }
     ensures { λ _. ⌜ now (offset .exit) ≡ numberedLeft (located code «host_size») (now (offset .entry)) ⌝ }
 {
-    boundary_numbers::give_number(locations::locate(code, host_size), offset)
+    boundary_answers::give_number(locations::locate(code, host_size), offset)
 }
 
 // The layout of the first candidate that is accepted. candidates holds deciphered headers of 512

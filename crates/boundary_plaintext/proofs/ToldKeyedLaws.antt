@@ -7,7 +7,7 @@ use Rattle.plaintext.specs.Plaintext.{plainFilledBy, plainWrittenBy, PlainReadP
 use Rattle.plaintext.specs.declared.{KeyedOutcome.KeyedOutcome, KeyedView.KeyedView}
 use Rattle.view.specs.{Outcomes.{viewRead, viewWrite}, declared.View.View}
 use Rattle.boundary_numbers.specs.BoundaryNumbers.{viewFrom}
-use Rattle.boundary_access.specs.BoundaryAccess.{viewLeft, Tells}
+use Rattle.boundary_answers.specs.BoundaryAnswers.{viewLeft, Tells}
 use Rattle.boundary_plaintext.specs.BoundaryPlaintext.{PlainReadCall, PlainWriteCall}
 
 module _ (numbers key image : List ℕ) (first count : ℕ) (buffer : List ℕ) (view : View) (same : view ≡ viewFrom numbers) (outcome : KeyedOutcome)

@@ -5,7 +5,7 @@ use lib.ListN.{length}
 use Rattle.plaintext.specs.Plaintext.{plainFilledBy, plainWrittenBy}
 use Rattle.view.specs.Outcomes.{viewRead, viewWrite}
 use Rattle.boundary_numbers.specs.BoundaryNumbers.{viewFrom}
-use Rattle.boundary_access.specs.BoundaryAccess.{viewLeft, Tells}
+use Rattle.boundary_answers.specs.BoundaryAnswers.{viewLeft, Tells}
 
 -- what a read leaves, for a view's numbers and a key: what it says of its answer, and the buffer
 pub record PlainReadCall (view key image : List ℕ) (first count : ℕ) (buffer sectorBefore : List ℕ) (number : ℕ) (filled sector : List ℕ) : Type 0 where

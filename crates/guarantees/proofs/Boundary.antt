@@ -13,9 +13,11 @@ use Rattle.sector_map.specs.SectorMap.{tweakOf, tweakNumber}
 use Rattle.making.specs.Views.{viewedRefusal}
 use Rattle.protection.specs.declared.Protection.{Protection, the-variants.{Unprotected, Protected}}
 use Rattle.boundary_numbers.specs.BoundaryNumbers.{layoutNumbers, layoutFrom, protectionNumbers, protectionFrom, viewNumbers, viewFrom}
-use Rattle.boundary_numbers.specs.BoundaryNumbers.{numberedLeft, openedLeft, viewedLeft, blockLeft}
+use Rattle.boundary_answers.specs.BoundaryAnswers.{numberedLeft}
+use Rattle.boundary_numbers.specs.BoundaryNumbers.{openedLeft, viewedLeft, blockLeft}
 use Rattle.boundary_opening.specs.BoundaryOpening.{keysLeft}
-use Rattle.boundary_access.specs.BoundaryAccess.{viewLeft, sectorLeft, offsetLeft}
+use Rattle.boundary_answers.specs.BoundaryAnswers.{viewLeft, sectorLeft}
+use Rattle.boundary_extents.specs.BoundaryExtents.{offsetLeft}
 use Rattle.guarantees.specs.Boundary.{TellsNumbers, ReturnsZero, OrdersNumbers, storedProtection, StoresAnswers}
 use Rattle.guarantees.proofs.BoundaryNumbers.{view-of-numbers, set-last}
 use Rattle.guarantees.proofs.BoundaryZero.{located-zero, opened-zero, header-zero, host-sector-zero, user-sector-zero}

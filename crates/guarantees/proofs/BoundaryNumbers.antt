@@ -11,7 +11,7 @@ use Rattle.layout.specs.declared.Layout.{Layout}
 use Rattle.protection.specs.declared.Protection.{Protection, the-variants.{Unprotected, Protected}}
 use Rattle.view.specs.{declared.View.View, Outcomes.after}
 use Rattle.boundary_numbers.specs.BoundaryNumbers.{lockIndex, layoutNumbers, layoutFrom, protectionNumbers, protectionFrom, viewNumbers, viewFrom}
-use Rattle.boundary_access.specs.BoundaryAccess.{viewLeft}
+use Rattle.boundary_answers.specs.BoundaryAnswers.{viewLeft}
 
 -- a view of its three parts
 abbrev viewWith : Layout → Protection → Bool → View

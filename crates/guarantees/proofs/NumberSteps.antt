@@ -5,7 +5,7 @@ use lib.ListN.{length}
 use Rattle.answers.specs.{Answers.answerRefusal, declared.Answer.Answer}
 use Rattle.view.specs.Outcomes.{viewRead, viewWrite, after}
 use Rattle.boundary_numbers.specs.BoundaryNumbers.{viewFrom}
-use Rattle.boundary_access.specs.BoundaryAccess.{viewLeft, Tells}
+use Rattle.boundary_answers.specs.BoundaryAnswers.{viewLeft, Tells}
 use Rattle.model.specs.Model.{State, stateWith, Reply}
 use Rattle.guarantees.specs.BoundaryRuns.{KeyedNumbers, keyedFrom, Said, answerSaid, replyTold, KeepsNumberContract, KeepsNumberCall}
 use Rattle.guarantees.specs.Steps.{KeepsContract}

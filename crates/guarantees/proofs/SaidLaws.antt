@@ -6,7 +6,7 @@ use Rattle.judgement.proofs.JudgingLaws.{namesSector, names-some, read-holds, w
 use Rattle.answers.specs.{Answers.{answerRefusal, answerSector}, declared.Answer.{Answer, the-variants.{Accepted, Refused, RefusedAt}}}
 use Rattle.view.specs.{Outcomes.{viewRead, viewWrite}, declared.View.View}
 use Rattle.boundary_numbers.specs.BoundaryNumbers.{lockIndex}
-use Rattle.boundary_access.specs.BoundaryAccess.{viewLeft, sectorLeft, Tells}
+use Rattle.boundary_answers.specs.BoundaryAnswers.{viewLeft, sectorLeft, Tells}
 use Rattle.guarantees.specs.BoundaryRuns.{answerSaid}
 
 pub length-left : (number : ℕ) (before : List ℕ) → length (viewLeft number before) ≡ length before

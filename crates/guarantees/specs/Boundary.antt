@@ -20,9 +20,12 @@ use Rattle.answers.specs.declared.Placement.the-variants as placing
 use Rattle.view.specs.declared.{Outcome.Outcome, View.View}
 use Rattle.protection.specs.declared.Protection.{Protection, the-variants.{Unprotected, Protected}}
 use Rattle.making.specs.declared.Viewed.the-variants as making
-use Rattle.boundary_numbers.specs.BoundaryNumbers.{layoutFrom, viewFrom, numberedLeft, openedLeft, viewedLeft, blockLeft}
+use Rattle.boundary_numbers.specs.BoundaryNumbers.{layoutFrom, viewFrom, openedLeft, viewedLeft, blockLeft}
+use Rattle.boundary_answers.specs.BoundaryAnswers.{numberedLeft}
 use Rattle.boundary_opening.specs.BoundaryOpening.{keysLeft}
-use Rattle.boundary_access.specs.BoundaryAccess.{offsetLeft, Tells, WriteCall}
+use Rattle.boundary_extents.specs.BoundaryExtents.{offsetLeft}
+use Rattle.boundary_answers.specs.BoundaryAnswers.{Tells}
+use Rattle.boundary_access.specs.BoundaryAccess.{WriteCall}
 use Rattle.header_claims.specs.Writing.{Request, answerTo}
 
 -- every refusal is told by its own number, and every acceptance by 0

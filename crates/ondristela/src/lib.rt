@@ -14,9 +14,11 @@ ghost use Rattle.opening.specs.Opening.{opened};
 ghost use Rattle.header_writing.specs.HeaderWriting.{writtenRefusal, askedLayout, headerAnswer, headerLeft};
 ghost use Rattle.sector_map.specs.SectorMap.{hostSector, userSector, tweakOf};
 ghost use Rattle.making.specs.Views.{plainView, protectedView, viewedRefusal};
-ghost use Rattle.boundary_numbers.specs.BoundaryNumbers.{layoutFrom, numberedLeft, openedLeft, viewedLeft, blockLeft};
+ghost use Rattle.boundary_numbers.specs.BoundaryNumbers.{layoutFrom, openedLeft, viewedLeft, blockLeft};
+ghost use Rattle.boundary_answers.specs.BoundaryAnswers.{numberedLeft};
 ghost use Rattle.boundary_opening.specs.BoundaryOpening.{keysLeft};
-ghost use Rattle.boundary_access.specs.BoundaryAccess.{ReadCall, WriteCall, ReadExtentCall, WriteExtentCall};
+ghost use Rattle.boundary_access.specs.BoundaryAccess.{ReadCall, WriteCall};
+ghost use Rattle.boundary_extents.specs.BoundaryExtents.{ReadExtentCall, WriteExtentCall};
 ghost use Rattle.xts.specs.Units.{enciphered, deciphered};
 ghost use Rattle.boundary_plaintext.specs.BoundaryPlaintext.{PlainReadCall, PlainWriteCall};
 use boundary_numbers::LAYOUT_SIZE;
@@ -200,7 +202,7 @@ pub extern "C" fn ondristela_read_extent(
 ) -> u64
     ensures { λ r. ⌜ ReadExtentCall (now (view .entry)) «image_size» first count «buffer_size» (now (offset .entry)) (now (sector .entry)) r (now (offset .exit)) (now (sector .exit)) ⌝ }
 {
-    boundary_access::read_extent(view, image_size, first, count, buffer_size, offset, sector)
+    boundary_extents::read_extent(view, image_size, first, count, buffer_size, offset, sector)
 }
 
 // Where in the host a write of such sizes finds its bytes. 18 closes the view's lock, as a write's does.
@@ -216,7 +218,7 @@ pub extern "C" fn ondristela_write_extent(
 ) -> u64
     ensures { λ r. ⌜ WriteExtentCall (now (view .entry)) «image_size» first count «buffer_size» (now (offset .entry)) (now (sector .entry)) r (now (offset .exit)) (now (view .exit)) (now (sector .exit)) ⌝ }
 {
-    boundary_access::write_extent(view, image_size, first, count, buffer_size, offset, sector)
+    boundary_extents::write_extent(view, image_size, first, count, buffer_size, offset, sector)
 }
 
 // Enciphers a unit of 512 bytes in its place: AES-256 in XTS. The first 32 bytes of the key are for the
@@ -225,7 +227,7 @@ pub extern "C" fn ondristela_write_extent(
 pub extern "C" fn ondristela_encipher(key: &[u8; 64], tweak_number: u64, unit: &mut [u8; 512])
     ensures { λ _. ⌜ now (unit .exit) ≡ enciphered (now (key .entry)) «tweak_number» (now (unit .entry)) ⌝ }
 {
-    boundary_plaintext::encipher(key, tweak_number, unit)
+    boundary_units::encipher(key, tweak_number, unit)
 }
 
 // Deciphers a unit of 512 bytes in its place.
@@ -233,7 +235,7 @@ pub extern "C" fn ondristela_encipher(key: &[u8; 64], tweak_number: u64, unit: &
 pub extern "C" fn ondristela_decipher(key: &[u8; 64], tweak_number: u64, unit: &mut [u8; 512])
     ensures { λ _. ⌜ now (unit .exit) ≡ deciphered (now (key .entry)) «tweak_number» (now (unit .entry)) ⌝ }
 {
-    boundary_plaintext::decipher(key, tweak_number, unit)
+    boundary_units::decipher(key, tweak_number, unit)
 }
 
 // Fills the buffer with count sectors of the image, from user sector first on, each deciphered.

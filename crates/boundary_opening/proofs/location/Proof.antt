@@ -1,7 +1,7 @@
 -- `boundary_opening::location` meets its contract.
 -- Assumes nothing.
 use Rattle.answers.specs.Answers.{numberedRefusal}
-use Rattle.boundary_numbers.specs.BoundaryNumbers.{numberedLeft}
+use Rattle.boundary_answers.specs.BoundaryAnswers.{numberedLeft}
 use Rattle.boundary_numbers.proofs.GivenLaws.{given}
 use borrow.Author.Needs.{needs}
 use Rattle.boundary_opening.proofs.location.Statement.{statement}

@@ -1,11 +1,11 @@
--- `boundary_access::lock_after` meets its contract.
+-- `boundary_answers::lock_after` meets its contract.
 -- Assumes nothing.
 use mathlib.Core.Path.{refl, sym}
 use borrow.Author.Tests.{eq-eqb, ne-eqb}
-use Rattle.boundary_access.specs.BoundaryAccess.{viewLeft}
+use Rattle.boundary_answers.specs.BoundaryAnswers.{viewLeft}
 use borrow.Author.Needs.{needs}
-use Rattle.boundary_access.proofs.lock_after.Statement.{statement}
-use Rattle.boundary_access.proofs.lock_after.Tie as tie
+use Rattle.boundary_answers.proofs.lock_after.Statement.{statement}
+use Rattle.boundary_answers.proofs.lock_after.Tie as tie
 
 returns : tie.Need-returns
 unfolding viewLeft

@@ -1,11 +1,11 @@
--- `boundary_numbers::give_number` meets its contract, by the cases of the answer.
+-- `boundary_answers::give_number` meets its contract, by the cases of the answer.
 -- Assumes nothing.
 use mathlib.Core.Path.{refl}
 use Rattle.answers.specs.Answers.{numberedRefusal}
-use Rattle.boundary_numbers.specs.BoundaryNumbers.{numberedLeft}
+use Rattle.boundary_answers.specs.BoundaryAnswers.{numberedLeft}
 use borrow.Author.Needs.{needs}
-use Rattle.boundary_numbers.proofs.give_number.Statement.{statement}
-use Rattle.boundary_numbers.proofs.give_number.Tie as tie
+use Rattle.boundary_answers.proofs.give_number.Statement.{statement}
+use Rattle.boundary_answers.proofs.give_number.Tie as tie
 
 returns : tie.Need-returns
 unfolding numberedRefusal numberedLeft

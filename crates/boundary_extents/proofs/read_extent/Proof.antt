@@ -1,9 +1,9 @@
--- `boundary_access::read_extent` meets its contract: the placement of the view that the numbers tell.
+-- `boundary_extents::read_extent` meets its contract: the placement of the view that the numbers tell.
 -- Assumes nothing.
-use Rattle.boundary_access.proofs.ToldViewLaws.{read-extent-call}
+use Rattle.boundary_extents.proofs.ToldExtentLaws.{read-extent-call}
 use borrow.Author.Needs.{needs}
-use Rattle.boundary_access.proofs.read_extent.Statement.{statement}
-use Rattle.boundary_access.proofs.read_extent.Tie as tie
+use Rattle.boundary_extents.proofs.read_extent.Statement.{statement}
+use Rattle.boundary_extents.proofs.read_extent.Tie as tie
 
 returns : tie.Need-returns
 returns c =

@@ -1,11 +1,12 @@
--- `boundary_access::give_placement` meets its contract, by the cases of the placement.
+-- `boundary_extents::give_placement` meets its contract, by the cases of the placement.
 -- Assumes nothing.
 use mathlib.Core.Path.{refl}
 use Rattle.answers.specs.Answers.{placementRefusal, placementSector}
-use Rattle.boundary_access.specs.BoundaryAccess.{sectorLeft, offsetLeft}
+use Rattle.boundary_answers.specs.BoundaryAnswers.{sectorLeft}
+use Rattle.boundary_extents.specs.BoundaryExtents.{offsetLeft}
 use borrow.Author.Needs.{needs}
-use Rattle.boundary_access.proofs.give_placement.Statement.{statement}
-use Rattle.boundary_access.proofs.give_placement.Tie as tie
+use Rattle.boundary_extents.proofs.give_placement.Statement.{statement}
+use Rattle.boundary_extents.proofs.give_placement.Tie as tie
 
 returns : tie.Need-returns
 unfolding placementRefusal placementSector sectorLeft offsetLeft

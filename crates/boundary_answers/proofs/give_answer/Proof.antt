@@ -1,11 +1,11 @@
--- `boundary_access::give_answer` meets its contract, by the cases of the answer.
+-- `boundary_answers::give_answer` meets its contract, by the cases of the answer.
 -- Assumes nothing.
 use mathlib.Core.Path.{refl}
 use Rattle.answers.specs.Answers.{answerRefusal, answerSector}
-use Rattle.boundary_access.specs.BoundaryAccess.{sectorLeft}
+use Rattle.boundary_answers.specs.BoundaryAnswers.{sectorLeft}
 use borrow.Author.Needs.{needs}
-use Rattle.boundary_access.proofs.give_answer.Statement.{statement}
-use Rattle.boundary_access.proofs.give_answer.Tie as tie
+use Rattle.boundary_answers.proofs.give_answer.Statement.{statement}
+use Rattle.boundary_answers.proofs.give_answer.Tie as tie
 
 returns : tie.Need-returns
 unfolding answerRefusal answerSector sectorLeft

@@ -1,9 +1,9 @@
--- `boundary_access::write_extent` meets its contract: the placement of the view that the numbers tell, and its lock.
+-- `boundary_extents::write_extent` meets its contract: the placement of the view that the numbers tell, and its lock.
 -- Assumes nothing.
-use Rattle.boundary_access.proofs.ToldViewLaws.{write-extent-call}
+use Rattle.boundary_extents.proofs.ToldExtentLaws.{write-extent-call}
 use borrow.Author.Needs.{needs}
-use Rattle.boundary_access.proofs.write_extent.Statement.{statement}
-use Rattle.boundary_access.proofs.write_extent.Tie as tie
+use Rattle.boundary_extents.proofs.write_extent.Statement.{statement}
+use Rattle.boundary_extents.proofs.write_extent.Tie as tie
 
 returns : tie.Need-returns
 returns c =
