@@ -46,8 +46,8 @@ fn give_keys(answer: Opened, range: &mut [u64; 2]) -> u64
 {
     match answer {
         Opened::Accepted(layout) => {
-            let offset = layout.candidate * header::SIZE as u64 + header::KEYS as u64;
-            *range = [offset, header::KEYS_SIZE as u64];
+            let offset = layout.candidate * header_format::SIZE as u64 + header_format::KEYS as u64;
+            *range = [offset, header_format::KEYS_SIZE as u64];
             0
         }
         Opened::Refused(number) => number as u64,

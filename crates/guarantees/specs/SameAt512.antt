@@ -9,11 +9,14 @@ use Rattle.layout.specs.Rules.{standard, hidden, hostSizeRule, sectorSizeRule, 
 use Rattle.layout.specs.declared.{Layout.Layout, Opened.Opened}
 use Rattle.layout.specs.declared.Opened.the-variants as opening
 use Rattle.locations.specs.Locations.{codeRule, locationOf}
-use Rattle.header.specs.Header.{truecrypt, magicOf, fieldsOf, isHeader, acceptedLayout, judge}
-use Rattle.header.specs.Header.{versionRule, reservedRule, flagsRule, hiddenSizeRule}
-use Rattle.header.specs.declared.Fields.{Fields}
+use Rattle.header_format.specs.Format.{truecrypt}
+use Rattle.header.specs.Header.{magicOf, fieldsOf, isHeader, acceptedLayout, judge}
+use Rattle.header_format.specs.Format.{versionRule}
+use Rattle.header.specs.Header.{reservedRule, flagsRule, hiddenSizeRule}
+use Rattle.header_format.specs.declared.Fields.{Fields}
 use Rattle.opening.specs.Opening.{lengthsRule, codesRule, candidateAt, further, opened}
-use Rattle.new_header.specs.NewHeader.{newLengthsRule, newFields}
+use Rattle.header_format.specs.Format.{newLengthsRule}
+use Rattle.new_header.specs.NewHeader.{newFields}
 use Rattle.header_writing.specs.HeaderWriting.{headerAnswer}
 use Rattle.header_writing.specs.declared.Written.{Written}
 use Rattle.header_writing.specs.declared.Written.the-variants as writing

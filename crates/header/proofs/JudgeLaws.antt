@@ -6,7 +6,8 @@ use mathlib.Core.{Path.{_≡_, refl, ap}, Bool.{Bool, true, false}, List.List}
 use Rattle.answers.specs.Answers.{line}
 use Rattle.layout.specs.{Rules.sectorSizeRule, declared.{Layout.Layout, Opened.{Opened, the-variants.{Accepted, Refused}}}}
 use Rattle.header.specs.Header.{magicOf, fieldsOf, isHeader, acceptedLayout, judge}
-use Rattle.header.specs.Header.{versionRule, reservedRule, flagsRule, hiddenSizeRule, areaRule}
+use Rattle.header_format.specs.Format.{versionRule}
+use Rattle.header.specs.Header.{reservedRule, flagsRule, hiddenSizeRule, areaRule}
 
 -- a refusal is no acceptance
 pub refused-accepted : (number : ℕ) (layout : Layout) → Refused number ≡ Accepted layout → ⊥

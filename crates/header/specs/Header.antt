@@ -1,90 +1,18 @@
--- The 512 bytes of a header (RULES.md, Header bytes): their fields, when they are a header, and the lines that an accepted header keeps.
+-- The 512 bytes of a header (RULES.md, Header bytes): their numbers, when they are a header, and the lines that an accepted header keeps.
 -- What the contracts of `header` cite, in the rules' order. Assumes nothing.
-use Prim.Native.Nat.{ℕ, _-_, _/_, _%_}
-use mathlib.Core.{Bool.{Bool, true, _&&_, not, cond}, List.{List, [], _∷_}}
+use Prim.Native.Nat.{ℕ, _/_, _%_}
+use mathlib.Core.{Bool.{Bool, true, _&&_, not, cond}, List.List}
 use lib.{Dec.{leb, eqb}, ListN.length}
-use Rattle.fields.specs.{Bytes.{fieldPart, sameBytes, allZero}, declared.Field.Field}
+use Rattle.fields.specs.Bytes.{fieldPart, allZero}
 use Rattle.numbers.specs.Numbers.{bigEndian}
 use Rattle.crc32.specs.Crc32.{crc32}
 use Rattle.answers.specs.Answers.{line}
 use Rattle.layout.specs.{Rules.{standard, hidden, sectorSizeRule, dataAreaRule}, declared.{Layout.Layout, Opened.Opened}}
 use Rattle.layout.specs.declared.Opened.the-variants.{Accepted, Refused}
-use Rattle.header.specs.declared.Fields.{Fields}
-
--- a candidate's size
-abbrev pub headerBytes : ℕ
-headerBytes = 512
-
--- where each field stands, in the rules' order: its offset and its size; every number in a field is big-endian
-abbrev at : ℕ → ℕ → Field
-at offset size = record { offset = offset; size = size }
-
-abbrev pub saltField : Field
-saltField = at 0 64
-
-abbrev pub magicField : Field
-magicField = at 64 4
-
-abbrev pub versionField : Field
-versionField = at 68 2
-
-abbrev pub minProgramVersionField : Field
-minProgramVersionField = at 70 2
-
-abbrev pub keyChecksumField : Field
-keyChecksumField = at 72 4
-
-abbrev pub reservedField : Field
-reservedField = at 76 16
-
-abbrev pub hiddenSizeField : Field
-hiddenSizeField = at 92 8
-
-abbrev pub dataSizeField : Field
-dataSizeField = at 100 8
-
-abbrev pub dataStartField : Field
-dataStartField = at 108 8
-
-abbrev pub encryptedSizeField : Field
-encryptedSizeField = at 116 8
-
-abbrev pub flagsField : Field
-flagsField = at 124 4
-
-abbrev pub sectorSizeField : Field
-sectorSizeField = at 128 4
-
-abbrev pub moreReservedField : Field
-moreReservedField = at 132 120
-
-abbrev pub headerChecksumField : Field
-headerChecksumField = at 252 4
-
-abbrev pub keysField : Field
-keysField = at 256 256
-
--- what the header checksum is of: from the magic up to that checksum
-abbrev pub checkedField : Field
-checkedField = at (magicField .offset) (headerChecksumField .offset - magicField .offset)
-
--- the magic of VeraCrypt, "VERA" in ASCII, and its number in a layout
-abbrev pub veraMagic : List ℕ
-veraMagic = 86 ∷ 69 ∷ 82 ∷ 65 ∷ []
-
-abbrev pub vera : ℕ
-vera = 0
-
--- the magic of TrueCrypt, "TRUE" in ASCII, and its number in a layout
-abbrev pub trueMagic : List ℕ
-trueMagic = 84 ∷ 82 ∷ 85 ∷ 69 ∷ []
-
-abbrev pub truecrypt : ℕ
-truecrypt = 1
-
--- which magic (the lab's "mark") four bytes spell: VERA, TRUE, or neither, which is 2
-unfoldable pub magicNumber : List ℕ → ℕ
-magicNumber bytes = cond (sameBytes bytes veraMagic) vera (cond (sameBytes bytes trueMagic) truecrypt 2)
+use Rattle.header_format.specs.declared.Fields.{Fields}
+use Rattle.header_format.specs.Format.{headerBytes, magicField, versionField, minProgramVersionField, keyChecksumField, reservedField}
+use Rattle.header_format.specs.Format.{hiddenSizeField, dataSizeField, dataStartField, encryptedSizeField, flagsField, sectorSizeField}
+use Rattle.header_format.specs.Format.{moreReservedField, headerChecksumField, keysField, checkedField, vera, truecrypt, magicNumber, versionRule}
 
 -- the magic of a candidate
 unfoldable pub magicOf : List ℕ → ℕ
@@ -113,10 +41,6 @@ checksumsMatch h =
 -- the candidate is a header; only 512 bytes are
 unfoldable pub isHeader : List ℕ → Bool
 isHeader h = eqb (length h) headerBytes && leb (magicOf h) truecrypt && checksumsMatch h
-
--- line 5, the version: from 2 to 5 with the magic VERA, 4 or 5 with TRUE
-unfoldable pub versionRule : ℕ → ℕ → Bool
-versionRule magic version = leb version 5 && cond (eqb magic vera) (leb 2 version) (leb 4 version)
 
 -- line 6, what is reserved: no flag is set above bit 1, and with the magic VERA the bytes of both reserved fields are zero
 unfoldable pub reservedRule : ℕ → ℕ → List ℕ → Bool
@@ -152,7 +76,7 @@ unfoldable pub areaRule : Layout → ℕ → Bool
 areaRule layout encryptedSize = eqb encryptedSize (layout .«data_size») && dataAreaRule layout
 
 -- the judgement of one candidate: 4 where it is no header, else by the first line that it breaks, and its layout where it keeps them all;
--- line 8 is the layout's own rule for Z
+-- line 5 is the format's rule for versions, and line 8 the layout's for Z
 unfoldable pub judge : ℕ → ℕ → ℕ → List ℕ → Opened
 judge kind hostSize index h =
     let magic = magicOf h in

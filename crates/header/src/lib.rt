@@ -5,58 +5,25 @@ ghost use mathlib.Core.Path.{_≡_};
 ghost use Prim.Native.Nat.{_≤_};
 ghost use Rattle.fields.specs.Bytes.{fieldPart};
 ghost use Rattle.numbers.specs.Numbers.{bigEndian};
-ghost use Rattle.header.specs.Header.{magicNumber, magicOf, fieldsOf, checksumsMatch, isHeader};
-ghost use Rattle.header.specs.Header.{versionRule, reservedRule, hiddenSizeRule, areaRule};
+ghost use Rattle.header.specs.Header.{magicOf, fieldsOf, checksumsMatch, isHeader};
+ghost use Rattle.header.specs.Header.{reservedRule, hiddenSizeRule, areaRule};
 ghost use Rattle.header.specs.Header.{acceptedLayout, judge as judgement};
 use fields::Field;
+use header_format::Fields;
+use header_format::places;
 use layout::Layout;
 use layout::Opened;
-
-pub mod places;
-
-pub const SIZE: usize = 512;
-
-pub const SALT_SIZE: usize = places::SALT.size;
-
-// Where the keys stand.
-pub const KEYS: usize = places::KEYS.offset;
-
-pub const KEYS_SIZE: usize = places::KEYS.size;
-
-// The magics, as a header spells them.
-pub const VERA_MAGIC: [u8; 4] = *b"VERA";
-
-pub const TRUE_MAGIC: [u8; 4] = *b"TRUE";
-
-// The magics, as a layout has them.
-pub const VERA: u64 = 0;
-
-pub const TRUE: u64 = 1;
-
-const NEITHER: u64 = 2;
-
-// The numbers of a header (RULES.md, Header bytes), with the rules' letters behind them.
-pub struct Fields {
-    pub version: u64,
-    pub min_program_version: u64,
-    pub hidden_size: u64, // H
-    pub data_size: u64, // V
-    pub data_start: u64, // O
-    pub encrypted_size: u64, // E
-    pub flags: u64,
-    pub sector_size: u64, // Z
-}
 
 // Judges one candidate for a kind of volume and a host's size. A layout carries index as the
 // candidate's. Fewer or more than 512 bytes are no header.
 pub fn judge(candidate: &[u8], kind: u64, host_size: u64, index: u64) -> Opened
     ensures { λ r. ⌜ r ≡ judgement kind «host_size» index (now (candidate .entry)) ⌝ }
 {
-    if candidate.len() != SIZE {
+    if candidate.len() != header_format::SIZE {
         return Opened::Refused(4);
     }
     let magic = magic_of(candidate);
-    if TRUE < magic {
+    if header_format::TRUE < magic {
         return Opened::Refused(4);
     }
     if !checksums_match(candidate) {
@@ -68,20 +35,7 @@ pub fn judge(candidate: &[u8], kind: u64, host_size: u64, index: u64) -> Opened
 fn magic_of(candidate: &[u8]) -> u64
     ensures { λ r. ⌜ r ≡ magicOf (now (candidate .entry)) ⌝ }
 {
-    magic_number(fields::field_bytes(candidate, places::MAGIC))
-}
-
-// Which magic the bytes spell: VERA's number or TRUE's, and NEITHER for all other bytes.
-pub fn magic_number(bytes: &[u8]) -> u64
-    ensures { λ r. ⌜ r ≡ magicNumber (now (bytes .entry)) ⌝ }
-{
-    if fields::same_bytes(bytes, &VERA_MAGIC) {
-        return VERA;
-    }
-    if fields::same_bytes(bytes, &TRUE_MAGIC) {
-        return TRUE;
-    }
-    NEITHER
+    header_format::magic_number(fields::field_bytes(candidate, places::MAGIC))
 }
 
 // The salt, bytes 0 to 63, is in neither checksum.
@@ -128,7 +82,7 @@ fn first_broken(candidate: &[u8], magic: u64, kind: u64, host_size: u64, index: 
     ensures { λ r. ⌜ r ≡ judgement kind «host_size» index (now (candidate .entry)) ⌝ }
 {
     let fields = read_fields(candidate);
-    if !keeps_version(magic, fields.version) {
+    if !header_format::keeps_version(magic, fields.version) {
         return Opened::Refused(5);
     }
     if !keeps_reserved(candidate, magic, fields.flags) {
@@ -150,19 +104,6 @@ fn first_broken(candidate: &[u8], magic: u64, kind: u64, host_size: u64, index: 
     Opened::Accepted(layout)
 }
 
-// Whether headers of a magic may have this version. Any other magic than VERA is judged as TRUE.
-pub fn keeps_version(magic: u64, version: u64) -> bool
-    ensures { λ r. ⌜ r ≡ versionRule magic version ⌝ }
-{
-    if 5 < version {
-        return false;
-    }
-    if magic == VERA {
-        return 2 <= version;
-    }
-    4 <= version
-}
-
 // The bytes that VERA reserves are unused in TRUE, and not looked at.
 fn keeps_reserved(candidate: &[u8], magic: u64, flags: u64) -> bool
     ensures { λ r. ⌜ r ≡ reservedRule magic flags (now (candidate .entry)) ⌝ }
@@ -170,7 +111,7 @@ fn keeps_reserved(candidate: &[u8], magic: u64, flags: u64) -> bool
     if flags / 4 != 0 {
         return false;
     }
-    if magic != VERA {
+    if magic != header_format::VERA {
         return true;
     }
     if !fields::is_zero(fields::field_bytes(candidate, places::RESERVED)) {

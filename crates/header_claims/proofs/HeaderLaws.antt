@@ -7,7 +7,8 @@ use lib.{Dec.leb, ListN.length}
 use Rattle.fields.specs.Bytes.{part, sameBytes, allZero}
 use Rattle.numbers.specs.Numbers.{bigEndian}
 use Rattle.crc32.specs.Crc32.{crc32}
-use Rattle.header.specs.Header.{veraMagic, trueMagic, magicNumber, magicOf, checksumsMatch, isHeader}
+use Rattle.header_format.specs.Format.{veraMagic, trueMagic, magicNumber}
+use Rattle.header.specs.Header.{magicOf, checksumsMatch, isHeader}
 use Rattle.header_claims.specs.{Header.{bytesAt, veraLetters, trueLetters, IsHeader}, Numbers.AllZero}
 use Rattle.header_claims.proofs.Reflects.{Reflects, holds, fails, reflects-map, reflects-and, reflects-eqb, reflects-nil, reflects-cons}
 

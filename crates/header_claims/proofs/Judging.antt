@@ -6,7 +6,8 @@ use mathlib.Core.{Path.{_≡_, refl, sym, ap, _∙_}, Logic.{_⊎_, inl, inr, �
 use lib.{ListN.{length, drop, length-append}, Seq.{drop-at, drop-drop}}
 use borrow.Author.Tests.{ne-eqb}
 use Rattle.layout.specs.declared.{Layout.Layout, Opened.{Opened, the-variants.{Accepted, Refused}}}
-use Rattle.header.specs.Header.{magicOf, fieldsOf, checksumsMatch, isHeader, versionRule, reservedRule, judge}
+use Rattle.header.specs.Header.{magicOf, fieldsOf, checksumsMatch, isHeader, reservedRule, judge}
+use Rattle.header_format.specs.Format.{versionRule}
 use Rattle.opening.specs.Opening.{keysOffset, keysSize}
 use Rattle.header_claims.specs.Header.{veraLetters, trueLetters, IsHeader, Line, number, Keeps, FirstBroken, Tells}
 use Rattle.header_claims.specs.Judging.{KeepsRules, JudgesExactly, GivesKeys}

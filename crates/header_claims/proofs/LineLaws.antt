@@ -7,7 +7,8 @@ use lib.Dec.{eqb}
 use Rattle.layout.specs.{Rules.{standard, hidden, sectorSizeRule, placeRule, sectorsRule, dataAreaRule}, declared.Layout.Layout}
 use Rattle.fields.specs.Bytes.{part, allZero}
 use Rattle.header.specs.Header.{fieldsOf, acceptedLayout}
-use Rattle.header.specs.Header.{versionRule, reservedRule, flagsRule, hiddenSizeRule, areaRule}
+use Rattle.header_format.specs.Format.{versionRule}
+use Rattle.header.specs.Header.{reservedRule, flagsRule, hiddenSizeRule, areaRule}
 use Rattle.header_claims.specs.Header.{bytesAt, veraLetters, trueLetters, IsVera, IsTrue, Supported, SectorSize, KnownKind}
 use Rattle.header_claims.specs.Header.{version, reserved, flags, sectorSize, hiddenSize, dataArea, DataArea, Keeps}
 use Rattle.header_claims.specs.Numbers.{AllZero}

@@ -6,7 +6,7 @@ use lib.ListN.{length, replicate}
 use borrow.Author.Tests.{leb-true}
 use Rattle.fields.specs.Bytes.{part, sameBytes, allZero}
 use Rattle.layout.specs.declared.{Layout.Layout, Opened.{Opened, the-variants.Accepted}}
-use Rattle.header.specs.Header.{magicNumber}
+use Rattle.header_format.specs.Format.{magicNumber}
 use Rattle.opening.specs.Opening.{opened, keysOffset, keysSize, KeyBytes}
 use Rattle.new_header.specs.NewHeader.{newFields, newHeader}
 use Rattle.header_writing.specs.{HeaderWriting.{askedLayout, headerLeft}, declared.Written.{Written, the-variants.Done}}

@@ -7,7 +7,7 @@ use mathlib.Core.{Path.{_≡_, sym, ap, _∙_}, List.{List, [], _∷_}}
 use lib.ListN.{length}
 use Rattle.layout.specs.Rules.{multiple, hostSizeRule, sectorSizeRule}
 use Rattle.locations.specs.Locations.{codeRule}
-use Rattle.new_header.specs.NewHeader.{newLengthsRule}
+use Rattle.header_format.specs.Format.{newLengthsRule}
 use Rattle.opening.specs.Opening.{lengthsRule, codesRule}
 use Rattle.header_claims.specs.{Header.{Multiple, SectorSize}, Opening.{Lengths, Codes, HostSize}}
 use Rattle.header_claims.proofs.Reflects.{Reflects, reflects-map, reflects-and, reflects-or, reflects-eqb, reflects-leb}

@@ -10,10 +10,12 @@ use Rattle.fields.specs.Bytes.{part}
 use Rattle.layout.specs.{Rules.{hostSizeRule, sectorSizeRule, dataAreaRule}, declared.{Layout.Layout, Opened.the-variants.Accepted}}
 use Rattle.layout.proofs.RuleLaws.{and-true-right}
 use Rattle.locations.specs.Locations.{codeRule, locationOf}
-use Rattle.header.specs.Header.{magicNumber, magicOf, fieldsOf, versionRule, acceptedLayout, areaRule}
+use Rattle.header_format.specs.Format.{magicNumber, versionRule}
+use Rattle.header.specs.Header.{magicOf, fieldsOf, acceptedLayout, areaRule}
 use Rattle.header.proofs.JudgeLaws.{Kept, judge-kept}
 use Rattle.opening.specs.Opening.{opened}
-use Rattle.new_header.specs.NewHeader.{newLengthsRule, newHeader}
+use Rattle.header_format.specs.Format.{newLengthsRule}
+use Rattle.new_header.specs.NewHeader.{newHeader}
 use Rattle.header_writing.specs.HeaderWriting.{askedLayout, headerAnswer, headerLeft}
 use Rattle.header_writing.specs.declared.Written.{Written, the-variants.Done}
 use Rattle.header_laws.proofs.{OpenedOne.opened-one, WrittenAgain.{Zeros, written-again, again-zeros, vera-zeros}}

@@ -4,8 +4,8 @@ use mathlib.Core.Path.{_≡_}
 use lib.{Dec.leb, ListN.length}
 use Rattle.layout.specs.{Rules.{hostSizeRule, sectorSizeRule, dataAreaRule}, declared.Layout.Layout}
 use Rattle.locations.specs.Locations.{codeRule}
-use Rattle.header.specs.Header.{magicNumber, versionRule}
-use Rattle.new_header.specs.NewHeader.{newLengthsRule}
+use Rattle.header_format.specs.Format.{magicNumber, versionRule}
+use Rattle.header_format.specs.Format.{newLengthsRule}
 use Rattle.header_writing.specs.HeaderWriting.{askedLayout}
 use Rattle.header_claims.specs.Header.{DataArea}
 use Rattle.header_claims.specs.Writing.{Request, layoutFor, rightLengths, knownMagic, knownCode, allowedHost, supportedVersion, Passes}

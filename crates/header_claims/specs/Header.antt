@@ -7,7 +7,7 @@ use Rattle.numbers.specs.Numbers.{bigEndian}
 use Rattle.crc32.specs.Crc32.{crc32}
 use Rattle.layout.specs.Rules.{standard, hidden}
 use Rattle.layout.specs.declared.Layout.{Layout}
-use Rattle.header.specs.declared.Fields.{Fields}
+use Rattle.header_format.specs.declared.Fields.{Fields}
 use Rattle.header_claims.specs.Numbers.{AllZero}
 
 -- so many bytes from an offset on

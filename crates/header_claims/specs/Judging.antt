@@ -6,7 +6,8 @@ use mathlib.Core.{Path._≡_, Logic.{_⊎_, _↔_}, Bool.true, List.{List, [], _
 use lib.ListN.{length}
 use Rattle.layout.specs.Rules.{standard, hidden, multiple, hostSizeRule, sectorSizeRule, dataAreaRule, sound}
 use Rattle.layout.specs.declared.{Layout.Layout, Opened.the-variants.{Accepted, Refused}}
-use Rattle.header.specs.Header.{magicNumber, versionRule, judge}
+use Rattle.header_format.specs.Format.{magicNumber, versionRule}
+use Rattle.header.specs.Header.{judge}
 use Rattle.opening.specs.Opening.{KeyBytes}
 use Rattle.header_claims.specs.Header.{bytesAt, veraLetters, trueLetters, Multiple, SectorSize, KnownKind}
 use Rattle.header_claims.specs.Header.{DataArea, IsHeader, Line, number, Keeps, FirstBroken, Tells}

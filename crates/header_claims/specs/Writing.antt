@@ -9,7 +9,8 @@ use Rattle.layout.specs.declared.{Layout.Layout, Opened.the-variants.Accepted}
 use Rattle.opening.specs.Opening.{opened, KeyBytes}
 use Rattle.numbers.specs.Numbers.{bigEndianBytes}
 use Rattle.crc32.specs.Crc32.{crc32}
-use Rattle.new_header.specs.NewHeader.{newLengthsRule, headerOver}
+use Rattle.header_format.specs.Format.{newLengthsRule}
+use Rattle.new_header.specs.NewHeader.{headerOver}
 use Rattle.header_writing.specs.HeaderWriting.{askedLayout, headerAnswer, headerLeft}
 use Rattle.header_writing.specs.declared.Written.{Written, the-variants.{Done, Refused}}
 use Rattle.header_claims.specs.Header.{bytesAt, veraLetters, trueLetters, Supported, SectorSize, DataArea}

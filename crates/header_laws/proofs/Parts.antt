@@ -11,10 +11,10 @@ use Rattle.numbers.specs.Numbers.{bigEndianBytes}
 use Rattle.numbers.proofs.WrittenLaws.{big-endian-bytes-length}
 use Rattle.crc32.specs.Crc32.{crc32}
 use Rattle.layout.specs.declared.Layout.{Layout}
-use Rattle.header.specs.Header.{headerBytes, saltField, magicField, versionField, minProgramVersionField, keyChecksumField, reservedField}
-use Rattle.header.specs.Header.{hiddenSizeField, dataSizeField, dataStartField, encryptedSizeField, flagsField, sectorSizeField}
-use Rattle.header.specs.Header.{moreReservedField, headerChecksumField, keysField, checkedField, vera, veraMagic, trueMagic}
-use Rattle.header.specs.declared.Fields.{Fields}
+use Rattle.header_format.specs.Format.{headerBytes, saltField, magicField, versionField, minProgramVersionField, keyChecksumField, reservedField}
+use Rattle.header_format.specs.Format.{hiddenSizeField, dataSizeField, dataStartField, encryptedSizeField, flagsField, sectorSizeField}
+use Rattle.header_format.specs.Format.{moreReservedField, headerChecksumField, keysField, checkedField, vera, veraMagic, trueMagic}
+use Rattle.header_format.specs.declared.Fields.{Fields}
 use Rattle.new_header.specs.NewHeader.{magicBytes, newFields, spelling, numberContents, contents, laid, summed, newHeader}
 use Rattle.header_laws.proofs.ContentLaws.{allApart, Fit, fit-append, laid-length, laid-apart, laid-at}
 use Rattle.header_laws.proofs.ContentLaws.{bytes-big-endian, bytes-laid}

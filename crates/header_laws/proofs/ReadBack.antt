@@ -15,9 +15,11 @@ use Rattle.crc32.proofs.BoundLaws.{crc32-lt}
 use Rattle.layout.specs.Rules.{standard, hidden, multiple, hostSizeRule, sectorSizeRule, dataAreaRule, placeRule, sectorsRule}
 use Rattle.layout.specs.declared.{Layout.Layout, Opened.the-variants.Accepted}
 use Rattle.layout.proofs.{RuleLaws.{and-true-left, and-true-right, host-size-most, place-ends, size-least}, SectorSizeLaws.sector-size-most}
-use Rattle.header.specs.Header.{checkedField, magicNumber, magicOf, fieldsOf, checksumsMatch}
-use Rattle.header.specs.Header.{isHeader, versionRule, reservedRule, flagsRule, hiddenSizeRule, acceptedLayout, areaRule, judge}
-use Rattle.header.specs.declared.Fields.{Fields}
+use Rattle.header_format.specs.Format.{checkedField, magicNumber}
+use Rattle.header.specs.Header.{magicOf, fieldsOf, checksumsMatch}
+use Rattle.header.specs.Header.{isHeader, reservedRule, flagsRule, hiddenSizeRule, acceptedLayout, areaRule, judge}
+use Rattle.header_format.specs.Format.{versionRule}
+use Rattle.header_format.specs.declared.Fields.{Fields}
 use Rattle.new_header.specs.NewHeader.{magicBytes, newFields}
 use Rattle.header_laws.proofs.Parts.{Parts}
 

@@ -13,9 +13,10 @@ use Rattle.numbers.proofs.WrittenLaws.{big-endian-bytes-again}
 use Rattle.crc32.specs.Crc32.{crc32}
 use Rattle.layout.specs.{Rules.{hidden, dataAreaRule}, declared.Layout.Layout}
 use Rattle.layout.proofs.RuleLaws.{and-true-left, and-true-right}
-use Rattle.header.specs.Header.{saltField, magicField, versionField, minProgramVersionField, keyChecksumField, reservedField, hiddenSizeField}
-use Rattle.header.specs.Header.{dataSizeField, dataStartField, encryptedSizeField, flagsField, sectorSizeField, moreReservedField}
-use Rattle.header.specs.Header.{headerChecksumField, keysField, checkedField, vera, veraMagic, trueMagic, magicNumber, magicOf, fieldsOf}
+use Rattle.header_format.specs.Format.{saltField, magicField, versionField, minProgramVersionField, keyChecksumField, reservedField, hiddenSizeField}
+use Rattle.header_format.specs.Format.{dataSizeField, dataStartField, encryptedSizeField, flagsField, sectorSizeField, moreReservedField}
+use Rattle.header_format.specs.Format.{headerChecksumField, keysField, checkedField, vera, veraMagic, trueMagic, magicNumber}
+use Rattle.header.specs.Header.{magicOf, fieldsOf}
 use Rattle.header.specs.Header.{checksumsMatch, isHeader, reservedRule, flagsRule, hiddenSizeRule, acceptedLayout, areaRule}
 use Rattle.header.proofs.JudgeLaws.{Kept}
 use Rattle.new_header.specs.NewHeader.{magicBytes, newFields, newHeader}

@@ -5,8 +5,8 @@ use lib.Dec.{leb}
 use Rattle.answers.specs.Answers.{line}
 use Rattle.layout.specs.{Rules.{hostSizeRule, sectorSizeRule, dataAreaRule}, declared.Layout.Layout}
 use Rattle.locations.specs.Locations.{codeRule}
-use Rattle.header.specs.Header.{truecrypt, versionRule}
-use Rattle.new_header.specs.NewHeader.{newLengthsRule}
+use Rattle.header_format.specs.Format.{truecrypt, versionRule}
+use Rattle.header_format.specs.Format.{newLengthsRule}
 use Rattle.new_header.proofs.LengthLaws.{lengths-right}
 use Rattle.header_writing.specs.HeaderWriting.{headerAnswer}
 use Rattle.header_writing.specs.declared.Written.{Written, the-variants.{Done, Refused}}

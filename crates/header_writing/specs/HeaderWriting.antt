@@ -6,8 +6,8 @@ use lib.Dec.{leb}
 use Rattle.answers.specs.Answers.{line}
 use Rattle.layout.specs.{Rules.{hostSizeRule, sectorSizeRule, dataAreaRule}, declared.Layout.Layout}
 use Rattle.locations.specs.Locations.{codeRule, locationOf}
-use Rattle.header.specs.Header.{truecrypt, magicNumber, versionRule}
-use Rattle.new_header.specs.NewHeader.{newLengthsRule, newHeader}
+use Rattle.header_format.specs.Format.{truecrypt, magicNumber, versionRule, newLengthsRule}
+use Rattle.new_header.specs.NewHeader.{newHeader}
 use Rattle.header_writing.specs.declared.Written.{Written, the-variants.{Done, Refused}}
 
 -- the refusal number of the writer

@@ -44,7 +44,7 @@ pub fn write(
     let layout = Layout {
         host_size,
         kind: kind_of(code),
-        magic: header::magic_number(&magic),
+        magic: header_format::magic_number(&magic),
         version: version as u64,
         min_program_version: min_program_version as u64,
         data_start,
@@ -92,10 +92,10 @@ fn judge(
 ) -> Written
     ensures { λ r. ⌜ r ≡ headerAnswer code layout «salt_size» «keys_size» «header_size» ⌝ }
 {
-    if !new_header::lengths_fit(salt_size, keys_size, header_size) {
+    if !header_format::lengths_fit(salt_size, keys_size, header_size) {
         return Written::Refused(1);
     }
-    if header::TRUE < layout.magic {
+    if header_format::TRUE < layout.magic {
         return Written::Refused(19);
     }
     if locations::MAX_CODE < code {
@@ -104,7 +104,7 @@ fn judge(
     if !layout::is_host_size(layout.host_size) {
         return Written::Refused(3);
     }
-    if !header::keeps_version(layout.magic, layout.version) {
+    if !header_format::keeps_version(layout.magic, layout.version) {
         return Written::Refused(5);
     }
     if !layout::is_sector_size(layout.sector_size) {

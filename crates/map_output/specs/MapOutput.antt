@@ -4,7 +4,7 @@ use Prim.Native.String as text
 use mathlib.Core.{Path._≡_, Bool.{Bool, cond}, List.{List, [], _∷_, _++_}}
 use lib.{Dec.eqb, ListN.{length, take, drop}}
 use Rattle.layout.specs.{Rules.hidden, declared.Layout.Layout}
-use Rattle.header.specs.Header.{vera, veraMagic, trueMagic}
+use Rattle.header_format.specs.Format.{vera, veraMagic, trueMagic}
 use Rattle.sector_map.specs.SectorMap.{sectors, firstSector}
 use Rattle.map_output.specs.Decimal.{decimal}
 

@@ -51,7 +51,14 @@ fn put_magic(out: &mut [u8], at: usize, magic: u64) -> usize
     requires { ⌜ at + lineRoom ≤ length (now out) ⌝ }
     ensures { λ r. ⌜ Written lineRoom (magicLine magic) (now (out .entry)) at (now (out .exit)) r ⌝ }
 {
-    put_either(out, at, b"mark", magic == header::VERA, b"VERA", b"TRUE")
+    put_either(
+        out,
+        at,
+        b"mark",
+        magic == header_format::VERA,
+        b"VERA",
+        b"TRUE",
+    )
 }
 
 // Where the data area lies in its host, in bytes.

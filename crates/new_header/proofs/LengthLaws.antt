@@ -5,7 +5,8 @@ use lib.{Dec.eqb, ListN.length}
 use borrow.Author.Tests.{eqb-true}
 use Rattle.layout.specs.declared.Layout.{Layout}
 use Rattle.layout.proofs.RuleLaws.{and-true-left, and-true-right}
-use Rattle.new_header.specs.NewHeader.{newLengthsRule, newHeader, headerOver}
+use Rattle.header_format.specs.Format.{newLengthsRule}
+use Rattle.new_header.specs.NewHeader.{newHeader, headerOver}
 
 pub lengths-right : (saltSize keysSize headerSize : ℕ) → newLengthsRule saltSize keysSize headerSize ≡ true
     → (saltSize ≡ 64) × ((keysSize ≡ 256) × (headerSize ≡ 512))

@@ -1,20 +1,15 @@
 -- A new header (RULES.md, Writing headers): its 512 bytes, laid field by field. What the contracts of `new_header` cite. Assumes nothing.
 use Prim.Native.Nat.{ℕ}
-use mathlib.Core.{Bool.{Bool, _&&_, cond}, List.{List, [], _∷_}}
+use mathlib.Core.{Bool.cond, List.{List, [], _∷_}}
 use lib.{Dec.eqb, ListN.{length, replicate}}
 use Rattle.fields.specs.{Bytes.{fieldPart, overlay}, declared.Field.Field}
 use Rattle.numbers.specs.Numbers.{bigEndianBytes}
 use Rattle.crc32.specs.Crc32.{crc32}
 use Rattle.layout.specs.{Rules.hidden, declared.Layout.Layout}
-use Rattle.header.specs.Header.{headerBytes, saltField, magicField, versionField, minProgramVersionField, keyChecksumField, hiddenSizeField}
-use Rattle.header.specs.Header.{dataSizeField, dataStartField, encryptedSizeField, flagsField, sectorSizeField, headerChecksumField}
-use Rattle.header.specs.Header.{keysField, checkedField, vera, veraMagic, trueMagic}
-use Rattle.header.specs.declared.Fields.{Fields}
-
--- the lengths: salt and keys fill their fields, and there is room for the header and no more
-unfoldable pub newLengthsRule : ℕ → ℕ → ℕ → Bool
-newLengthsRule saltSize keysSize headerSize =
-    eqb saltSize (saltField .size) && eqb keysSize (keysField .size) && eqb headerSize headerBytes
+use Rattle.header_format.specs.Format.{headerBytes, saltField, magicField, versionField, minProgramVersionField, keyChecksumField, hiddenSizeField}
+use Rattle.header_format.specs.Format.{dataSizeField, dataStartField, encryptedSizeField, flagsField, sectorSizeField, headerChecksumField}
+use Rattle.header_format.specs.Format.{keysField, checkedField, vera, veraMagic, trueMagic, newLengthsRule}
+use Rattle.header_format.specs.declared.Fields.{Fields}
 
 -- the bytes that spell a layout's magic
 unfoldable pub magicBytes : ℕ → List ℕ

@@ -5,33 +5,20 @@ ghost use Prim.Native.Nat.{_+_, _≤_};
 ghost use lib.ListN.{length, replicate};
 ghost use Rattle.fields.specs.Bytes.{overlay};
 ghost use Rattle.numbers.specs.Numbers.{bigEndianBytes};
-ghost use Rattle.header.specs.Header.{headerBytes};
-ghost use Rattle.new_header.specs.NewHeader.{newLengthsRule, magicBytes, newFields, numberContents, contents, laid};
+ghost use Rattle.header_format.specs.Format.{headerBytes};
+ghost use Rattle.new_header.specs.NewHeader.{magicBytes, newFields, numberContents, contents, laid};
 ghost use Rattle.new_header.specs.NewHeader.{summed, newHeader, headerOver};
 use fields::Field;
-use header::Fields;
-use header::places;
+use header_format::Fields;
+use header_format::places;
 use layout::Layout;
-
-// Whether salt and keys have the lengths of their fields, and the header that of a header.
-pub fn lengths_fit(salt_size: usize, keys_size: usize, header_size: usize) -> bool
-    ensures { λ r. ⌜ r ≡ newLengthsRule «salt_size» «keys_size» «header_size» ⌝ }
-{
-    if salt_size != header::SALT_SIZE {
-        return false;
-    }
-    if keys_size != header::KEYS_SIZE {
-        return false;
-    }
-    header_size == header::SIZE
-}
 
 // Lays the header of a layout, with a salt and keys, over all of header. Both checksums are made, and what no
 // field takes is zero. Does nothing where a length is wrong.
 pub fn lay(layout: Layout, salt: &[u8], keys: &[u8], header: &mut [u8])
     ensures { λ _. ⌜ now (header .exit) ≡ headerOver layout (now (salt .entry)) (now (keys .entry)) (now (header .entry)) ⌝ }
 {
-    if lengths_fit(salt.len(), keys.len(), header.len()) {
+    if header_format::lengths_fit(salt.len(), keys.len(), header.len()) {
         fill(layout, salt, keys, header);
     }
 }
@@ -65,10 +52,10 @@ fn put_fields(layout: Layout, salt: &[u8], keys: &[u8], header: &mut [u8])
 fn magic_bytes(magic: u64) -> [u8; 4]
     ensures { λ r. ⌜ r ≡ magicBytes magic ⌝ }
 {
-    if magic == header::VERA {
-        return header::VERA_MAGIC;
+    if magic == header_format::VERA {
+        return header_format::VERA_MAGIC;
     }
-    header::TRUE_MAGIC
+    header_format::TRUE_MAGIC
 }
 
 fn new_fields(layout: Layout) -> Fields
@@ -111,7 +98,7 @@ fn put(header: &mut [u8], offset: usize, content: &[u8])
     requires { ⌜ offset + length (now content) ≤ length (now header) ⌝ }
     ensures { λ _. ⌜ now (header .exit) ≡ overlay offset (now (content .entry)) (now (header .entry)) ⌝ }
 {
-    bytes::copy(content, &mut header[offset..]);
+    copy::lay(content, header, offset);
 }
 
 // Lays the fields that hold numbers.

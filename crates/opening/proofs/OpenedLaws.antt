@@ -9,7 +9,8 @@ use Rattle.answers.specs.Answers.{line}
 use Rattle.layout.specs.{Rules.hostSizeRule, declared.{Layout.Layout, Opened.{Opened, the-variants.{Accepted, Refused}}}}
 use Rattle.layout.proofs.RuleLaws.{and-true-left, and-true-right}
 use Rattle.locations.specs.Locations.{locationOf}
-use Rattle.header.specs.Header.{headerBytes, judge}
+use Rattle.header_format.specs.Format.{headerBytes}
+use Rattle.header.specs.Header.{judge}
 use Rattle.header.proofs.JudgeLaws.{refused-accepted, judge-candidate}
 use Rattle.opening.specs.Opening.{maxCandidates, lengthsRule, codesRule, candidateAt, judgements, further, searched, opened, keysOffset}
 

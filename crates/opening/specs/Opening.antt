@@ -6,7 +6,8 @@ use lib.{Dec.{leb, eqb}, ListN.length}
 use Rattle.answers.specs.Answers.{line}
 use Rattle.layout.specs.{Rules.hostSizeRule, declared.Opened.{Opened, the-variants.{Accepted, Refused}}}
 use Rattle.fields.specs.Bytes.{part}
-use Rattle.header.specs.Header.{headerBytes, keysField, judge}
+use Rattle.header_format.specs.Format.{headerBytes, keysField}
+use Rattle.header.specs.Header.{judge}
 use Rattle.locations.specs.Locations.{codeRule, locationOf}
 
 -- the most candidates of one call

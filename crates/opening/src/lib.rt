@@ -8,9 +8,9 @@ ghost use denote.Ref.{ptr};
 ghost use Rattle.layout.specs.declared.Opened.the-variants.{Refused};
 ghost use Rattle.locations.specs.Locations.{codeRule};
 ghost use Rattle.opening.specs.Opening.{lengthsRule, codesRule, further, searched, opened, KeyBytes};
-use header::KEYS;
-use header::KEYS_SIZE;
-use header::SIZE;
+use header_format::KEYS;
+use header_format::KEYS_SIZE;
+use header_format::SIZE;
 use layout::Opened;
 
 // At most so many candidates in one call.

@@ -6,7 +6,7 @@ use Rattle.bits.specs.Cases.{Rows}
 use Rattle.numbers.specs.Numbers.{bigEndianBytes}
 use Rattle.crc32.specs.Crc32.{crc32}
 use Rattle.layout.specs.declared.{Opened.{Opened, the-variants.{Accepted, Refused}}, Layout.Layout}
-use Rattle.header.specs.Header.{trueMagic}
+use Rattle.header_format.specs.Format.{trueMagic}
 use Rattle.opening.specs.Opening.{opened}
 
 -- what a header of a case tells: H, O, V, which is also E, and Z

@@ -6,7 +6,8 @@ use denote.Ref.{now}
 use borrow.Author.Tests.{eq-eqb, ne-eqb}
 use Rattle.fields.specs.Bytes.{fieldPart}
 use Rattle.crc32.specs.Crc32.{crc32}
-use Rattle.header.specs.Header.{keysField, checkedField, checksumsMatch}
+use Rattle.header_format.specs.Format.{keysField, checkedField}
+use Rattle.header.specs.Header.{checksumsMatch}
 use borrow.Author.Needs.{needs}
 use Rattle.header.proofs.checksums_match.Statement.{statement}
 use Rattle.header.proofs.checksums_match.Tie as tie

@@ -7,7 +7,8 @@ use borrow.Author.Tests.{eq-eqb, ne-eqb, not-true, not-false}
 use Rattle.layout.specs.{Rules.sectorSizeRule, declared.Opened.the-variants.Accepted}
 use Rattle.answers.proofs.KeptLaws.{line-kept, line-broken}
 use Rattle.header.specs.Header.{magicOf, fieldsOf, isHeader, acceptedLayout, judge}
-use Rattle.header.specs.Header.{versionRule, reservedRule, flagsRule, hiddenSizeRule, areaRule}
+use Rattle.header_format.specs.Format.{versionRule}
+use Rattle.header.specs.Header.{reservedRule, flagsRule, hiddenSizeRule, areaRule}
 use borrow.Author.Needs.{needs}
 use Rattle.header.proofs.first_broken.Statement.{statement}
 use Rattle.header.proofs.first_broken.Tie as tie

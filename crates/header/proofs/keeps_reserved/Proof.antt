@@ -4,7 +4,8 @@ use mathlib.Core.Path.{_≡_, sym, ap, _∙_}
 use denote.Ref.{now}
 use Rattle.fields.specs.Bytes.{fieldPart, allZero}
 use borrow.Author.Tests.{eq-eqb, ne-eqb, not-true, not-false}
-use Rattle.header.specs.Header.{reservedField, reservedRule}
+use Rattle.header_format.specs.Format.{reservedField}
+use Rattle.header.specs.Header.{reservedRule}
 use borrow.Author.Needs.{needs}
 use Rattle.header.proofs.keeps_reserved.Statement.{statement}
 use Rattle.header.proofs.keeps_reserved.Tie as tie

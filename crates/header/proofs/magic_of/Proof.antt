@@ -1,7 +1,8 @@
 -- `header::magic_of` meets its contract.
 -- Assumes nothing.
 use mathlib.Core.Path.{ap, _∙_}
-use Rattle.header.specs.Header.{magicNumber, magicOf}
+use Rattle.header_format.specs.Format.{magicNumber}
+use Rattle.header.specs.Header.{magicOf}
 use borrow.Author.Needs.{needs}
 use Rattle.header.proofs.magic_of.Statement.{statement}
 use Rattle.header.proofs.magic_of.Tie as tie

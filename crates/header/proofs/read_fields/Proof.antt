@@ -4,8 +4,9 @@ use mathlib.Core.Path.{_≡_}
 use denote.Ref.{now}
 use Rattle.numbers.specs.Numbers.{bigEndian}
 use Rattle.fields.specs.Bytes.{fieldPart}
-use Rattle.header.specs.Header.{versionField, minProgramVersionField, hiddenSizeField, dataSizeField, dataStartField}
-use Rattle.header.specs.Header.{encryptedSizeField, flagsField, sectorSizeField, fieldsOf}
+use Rattle.header_format.specs.Format.{versionField, minProgramVersionField, hiddenSizeField, dataSizeField, dataStartField}
+use Rattle.header_format.specs.Format.{encryptedSizeField, flagsField, sectorSizeField}
+use Rattle.header.specs.Header.{fieldsOf}
 use borrow.Author.Needs.{needs}
 use Rattle.header.proofs.read_fields.Statement.{statement}
 use Rattle.header.proofs.read_fields.Tie as tie

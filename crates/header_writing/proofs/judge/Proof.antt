@@ -6,8 +6,8 @@ use borrow.Author.Tests.{le-leb, lt-leb, not-true, not-false}
 use Rattle.answers.specs.Answers.{line}
 use Rattle.layout.specs.{Rules.{hostSizeRule, sectorSizeRule, dataAreaRule}, declared.Layout.Layout}
 use Rattle.locations.specs.Locations.{codeRule}
-use Rattle.header.specs.Header.{versionRule}
-use Rattle.new_header.specs.NewHeader.{newLengthsRule}
+use Rattle.header_format.specs.Format.{versionRule}
+use Rattle.header_format.specs.Format.{newLengthsRule}
 use Rattle.header_writing.specs.HeaderWriting.{headerAnswer}
 use Rattle.header_writing.specs.declared.Written.{Written, the-variants.{Done, Refused}}
 use Rattle.header_writing.proofs.judge.Statement.{statement}

@@ -7,7 +7,7 @@ use lib.ListN.{length}
 use borrow.Author.Needs.{needs}
 use Rattle.layout.specs.declared.Layout.{Layout}
 use Rattle.locations.specs.Locations.{locationOf}
-use Rattle.header.specs.Header.{magicNumber}
+use Rattle.header_format.specs.Format.{magicNumber}
 use Rattle.header_writing.specs.HeaderWriting.{askedLayout, headerAnswer, headerLeft}
 use Rattle.header_writing.proofs.write.Statement.{statement}
 use Rattle.header_writing.proofs.write.Tie as tie

@@ -5,8 +5,8 @@ use mathlib.Core.{Path.{_≡_, refl, ap, _∙_}, List.List}
 use borrow.Author.Needs.{needs}
 use Rattle.fields.specs.{Bytes.overlay, declared.Field.Field}
 use Rattle.numbers.specs.Numbers.{bigEndianBytes}
-use Rattle.header.specs.Header.{versionField, minProgramVersionField, hiddenSizeField, dataSizeField, dataStartField}
-use Rattle.header.specs.Header.{encryptedSizeField, flagsField, sectorSizeField}
+use Rattle.header_format.specs.Format.{versionField, minProgramVersionField, hiddenSizeField, dataSizeField, dataStartField}
+use Rattle.header_format.specs.Format.{encryptedSizeField, flagsField, sectorSizeField}
 use Rattle.new_header.specs.NewHeader.{numberContents, laid}
 use Rattle.new_header.proofs.put_numbers.Statement.{statement}
 use Rattle.new_header.proofs.put_numbers.Tie as tie

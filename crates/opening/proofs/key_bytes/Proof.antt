@@ -7,7 +7,7 @@ use native.Mathlib.Omega.{arith}
 use lib.ListN.{length}
 use denote.Ref.{now, ptr}
 use Rattle.layout.specs.declared.Opened.the-variants.{Accepted}
-use Rattle.header.specs.Header.{headerBytes}
+use Rattle.header_format.specs.Format.{headerBytes}
 use Rattle.opening.specs.Opening.{maxCandidates, opened, keysOffset, keysSize}
 use Rattle.opening.proofs.OpenedLaws.{opened-inside}
 use borrow.Author.Needs.{needs}

@@ -1,10 +1,10 @@
--- `header::keeps_version` meets its contract.
+-- `header_format::keeps_version` meets its contract.
 -- Assumes nothing.
 use mathlib.Core.Path.{refl}
 use borrow.Author.Tests.{eq-eqb, ne-eqb, le-leb, lt-leb}
-use Rattle.header.specs.Header.{versionRule}
-use Rattle.header.proofs.keeps_version.Statement.{statement}
-use Rattle.header.proofs.keeps_version.Tie as tie
+use Rattle.header_format.specs.Format.{versionRule}
+use Rattle.header_format.proofs.keeps_version.Statement.{statement}
+use Rattle.header_format.proofs.keeps_version.Tie as tie
 
 returns : tie.Need-returns
 unfolding versionRule

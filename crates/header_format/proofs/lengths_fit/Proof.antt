@@ -1,10 +1,10 @@
--- `new_header::lengths_fit` meets its contract.
+-- `header_format::lengths_fit` meets its contract.
 -- Assumes nothing.
 use mathlib.Core.Path.{refl}
 use borrow.Author.Tests.{eq-eqb, ne-eqb}
-use Rattle.new_header.specs.NewHeader.{newLengthsRule}
-use Rattle.new_header.proofs.lengths_fit.Statement.{statement}
-use Rattle.new_header.proofs.lengths_fit.Tie as tie
+use Rattle.header_format.specs.Format.{newLengthsRule}
+use Rattle.header_format.proofs.lengths_fit.Statement.{statement}
+use Rattle.header_format.proofs.lengths_fit.Tie as tie
 
 returns : tie.Need-returns
 unfolding newLengthsRule

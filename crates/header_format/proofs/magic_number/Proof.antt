@@ -1,10 +1,10 @@
--- `header::magic_number` meets its contract: the two words are the magics of the definition.
+-- `header_format::magic_number` meets its contract: the two words are the magics of the definition.
 -- Assumes nothing.
 use mathlib.Core.Path.{refl, sym, _∙_}
-use Rattle.header.specs.Header.{magicNumber}
+use Rattle.header_format.specs.Format.{magicNumber}
 use borrow.Author.Needs.{needs}
-use Rattle.header.proofs.magic_number.Statement.{statement}
-use Rattle.header.proofs.magic_number.Tie as tie
+use Rattle.header_format.proofs.magic_number.Statement.{statement}
+use Rattle.header_format.proofs.magic_number.Tie as tie
 
 returns : tie.Need-returns
 unfolding magicNumber
