@@ -2,13 +2,11 @@
 -- Assumes nothing.
 use Prim.Native.Nat.{ℕ, _+_, _-_, _*_, _≤_}
 use native.Mathlib.Omega.{arith}
-use native.Mathlib.Nat.{add-sub-cancel-left}
-use mathlib.Core.{Path.{_≡_, ap, _∙_}, Bool.false, List.{List, append-nil}}
+use native.Mathlib.Nat.{add-sub-cancel-left, zero-add}
+use mathlib.Core.{Path.{_≡_, refl, ap, _∙_}, Bool.false, List.{List, append-nil}}
 use lib.{ListN.{length, take, drop, drop-of-length-le, length-take, length-drop}, Seq.length-take-le}
-use borrow.Rule.Slice.PartMut.{putMid}
 use Rattle.answers.specs.{Answers.isAccepted, declared.Answer.{Answer, the-variants.Accepted}}
 use Rattle.fields.specs.Bytes.{overlay}
-use Rattle.fields.proofs.OverlayLaws.{overlay-rest}
 use Rattle.copy.{specs.Copy.copied, proofs.CopyLaws.copied-fits}
 use Rattle.layout.specs.{Rules.sectorBytes, declared.Layout.Layout}
 use Rattle.judgement.specs.Offsets.{extentStart}
@@ -22,23 +20,15 @@ part-length image size offset h =
 
 -- a buffer filled from the part of an image that starts at an offset and is as long
 pub copy-out : (image buffer : List ℕ) (offset : ℕ) → offset + length buffer ≤ length image
-    → copied (take (offset + length buffer - offset) (drop offset image)) buffer ≡ take (length buffer) (drop offset image)
+    → copied 0 (take (offset + length buffer - offset) (drop offset image)) buffer ≡ take (length buffer) (drop offset image)
+unfolding overlay
 copy-out image buffer offset fits =
     let part = take (length buffer) (drop offset image) in
     let size = part-length image (length buffer) offset fits in
     let none : length buffer ≤ length part = omega (arith, size) in
-    ap (λ (n : ℕ). copied (take n (drop offset image)) buffer) (add-sub-cancel-left offset (length buffer))
-    ∙ copied-fits part buffer (omega (arith, size))
-    ∙ rw (drop-of-length-le buffer none, append-nil)
-
--- an image whose part from an offset on was written over from its start
-pub copy-in : (image buffer : List ℕ) (offset : ℕ) → offset + length buffer ≤ length image
-    → putMid offset (length image - offset) image (copied buffer (take (length image - offset) (drop offset image)))
-    ≡ overlay offset buffer image
-copy-in image buffer offset fits =
-    let rest = take (length image - offset) (drop offset image) in
-    let room : length buffer ≤ length rest = simp (length-take, length-drop) (omega arith) in
-    ap (putMid offset (length image - offset) image) (copied-fits buffer rest room) ∙ overlay-rest offset buffer image fits
+    ap (λ (n : ℕ). copied 0 (take n (drop offset image)) buffer) (add-sub-cancel-left offset (length buffer))
+    ∙ copied-fits 0 part buffer (omega (arith, size))
+    ∙ rw (zero-add, drop-of-length-le buffer none, append-nil) refl
 
 module _ (answer : Answer) (layout : Layout) (image : List ℕ) (first : ℕ) (buffer : List ℕ) where
   pub filled-accepted : (count start : ℕ) → answer ≡ Accepted → start ≡ extentStart layout first → length buffer ≡ count * sectorBytes

@@ -86,7 +86,7 @@ fn fill(image: &[u8], start: u64, buffer: &mut [u8])
 {
     let start = start as usize;
     let end = start + buffer.len();
-    copy::copy(&image[start..end], buffer);
+    copy::lay(&image[start..end], buffer, 0);
 }
 
 // The buffer over the image's bytes from an offset on.
@@ -94,6 +94,5 @@ fn lay(image: &mut [u8], start: u64, buffer: &[u8])
     requires { ⌜ start + length (now buffer) ≤ length (now image) ⌝ }
     ensures { λ _. ⌜ now (image .exit) ≡ overlay start (now (buffer .entry)) (now (image .entry)) ⌝ }
 {
-    let start = start as usize;
-    copy::copy(buffer, &mut image[start..]);
+    copy::lay(buffer, image, start as usize);
 }

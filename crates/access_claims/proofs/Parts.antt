@@ -3,6 +3,7 @@ use Prim.Native.Nat.{ℕ, suc, _+_, _*_, _/_}
 use native.Mathlib.Omega.{arith}
 use mathlib.Core.Path.{refl, sym}
 use Rattle.answers.specs.Answers.{isAccepted}
+use Rattle.fields.specs.Bytes.{overlay}
 use Rattle.copy.proofs.CopyLaws.{copied-fits, copied-none}
 use Rattle.judgement.specs.Judging.{alignmentRule}
 use Rattle.judgement.specs.Offsets.{extentStart, placedBy}
@@ -42,7 +43,7 @@ unfolding alignmentRule
 aligned-reflects layout s first count = reflects-and (bytes-reflect layout s first) (bytes-reflect layout s count)
 
 pub keeps-parts : (layout hiddenLayout : Layout) (protection : Protection) → KeepsParts layout hiddenLayout protection
-unfolding soundProtection paired isAccepted extentStart placedBy
+unfolding soundProtection paired isAccepted extentStart placedBy overlay
 keeps-parts layout hiddenLayout protection =
     let first = sound-reflects layout in
     let second = sound-reflects hiddenLayout in

@@ -3,7 +3,7 @@
 -- contracts of `protection`, `judgement` and `copy` cite. Assumes nothing.
 use Prim.Native.Nat.{ℕ, _+_, _*_, _<_, _≤_}
 use mathlib.Core.{Path._≡_, Logic._↔_, Bool.{Bool, true, false}, List.{List, _++_}}
-use lib.ListN.{length, drop}
+use lib.ListN.{length, take, drop}
 use Rattle.judgement.specs.Judging.{alignmentRule, lockedAfter}
 use Rattle.judgement.specs.Offsets.{placedBy}
 use Rattle.answers.specs.Answers.{isAccepted, answerRefusal}
@@ -45,6 +45,6 @@ pub record KeepsParts (layout hiddenLayout : Layout) (protection : Protection) :
   pub starts : (first : ℕ) → placedBy Accepted layout first ≡ placement.Offset (layout .«data_start» + first * 512)
   pub noStart : (first number : ℕ) → placedBy (Refused number) layout first ≡ placement.Refused number
   pub noStartAt : (first number sector : ℕ) → placedBy (RefusedAt number sector) layout first ≡ placement.RefusedAt number sector
-  -- a copy lays its bytes over the start, however many they are; more than there is room for change nothing
-  pub copies : (from to : List ℕ) → length from ≤ length to → copied from to ≡ from ++ drop (length from) to
-  pub copiesNothing : (from to : List ℕ) → length to < length from → copied from to ≡ to
+  -- a copy lays its bytes over those from an offset on, however many they are; more than there is room for change nothing
+  pub copies : (at : ℕ) (from to : List ℕ) → at + length from ≤ length to → copied at from to ≡ take at to ++ from ++ drop (at + length from) to
+  pub copiesNothing : (at : ℕ) (from to : List ℕ) → length to < at + length from → copied at from to ≡ to

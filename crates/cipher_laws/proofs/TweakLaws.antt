@@ -7,7 +7,8 @@ use Rattle.numbers.proofs.WrittenLaws.{little-endian-bytes-length, little-endia
 use Rattle.aes_words.specs.Words.{Words, inFours}
 use Rattle.aes_steps.specs.Blocks.{blockByte}
 use Rattle.aes.specs.Cipher.{roundKey}
-use Rattle.xts.specs.Units.{tweakBytes, raised, alphaByte, timesAlpha, firstTweak}
+use Rattle.xts.specs.Units.{tweakBytes, firstTweak}
+use Rattle.xts_tweaks.specs.Tweaks.{raised, alphaByte, timesAlpha}
 use Rattle.cipher_laws.specs.Blocks.{Small}
 use Rattle.cipher_laws.proofs.{BlockLaws.{block-block, in-fours-block}, CipherLaws.cipher-inverses}
 

@@ -7,15 +7,16 @@ use lib.ListN.{length, take, drop, length-take, length-drop, length-append, drop
 use lib.Seq.{length-take-le, take-length, take-append-seam, take-at, drop-at, drop-drop, take-add}
 use borrow.Author.Tests.{le-leb, lt-leb}
 use borrow.Rule.Slice.PartMut.{putMid}
+use Rattle.fields.specs.Bytes.{overlay}
 use Rattle.copy.specs.Copy.{copied}
 
-pub copied-fits : (from to : List ℕ) → length from ≤ length to → copied from to ≡ from ++ drop (length from) to
+pub copied-fits : (at : ℕ) (from to : List ℕ) → at + length from ≤ length to → copied at from to ≡ overlay at from to
 unfolding copied
-copied-fits from to fits = simp (le-leb _ _ fits)
+copied-fits at from to fits = simp (le-leb _ _ fits)
 
-pub copied-none : (from to : List ℕ) → length to < length from → copied from to ≡ to
+pub copied-none : (at : ℕ) (from to : List ℕ) → length to < at + length from → copied at from to ≡ to
 unfolding copied
-copied-none from to none = simp (lt-leb _ _ none)
+copied-none at from to none = simp (lt-leb _ _ none)
 
 -- a copy over more bytes starts with those that were copied
 pub copied-first : (from to last : List ℕ) → last ≡ take (length from) from ++ drop (length from) to → take (length from) last ≡ from

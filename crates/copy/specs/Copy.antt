@@ -1,8 +1,9 @@
--- Bytes copied over the start of others. What the contract of `copy::copy` cites. Assumes nothing.
-use Prim.Native.Nat.{ℕ}
-use mathlib.Core.{Bool.cond, List.{List, _++_}}
-use lib.{Dec.leb, ListN.{length, drop}}
+-- Bytes laid over others. What the contract of `copy::lay` cites. Assumes nothing.
+use Prim.Native.Nat.{ℕ, _+_}
+use mathlib.Core.{Bool.cond, List.List}
+use lib.{Dec.leb, ListN.length}
+use Rattle.fields.specs.Bytes.{overlay}
 
--- what a copy leaves: the bytes, and what stood behind them; more bytes than there is room for change nothing
-unfoldable pub copied : List ℕ → List ℕ → List ℕ
-copied from to = cond (leb (length from) (length to)) (from ++ drop (length from) to) to
+-- what is left of bytes that others are laid over from an offset on; more than there is room for change nothing
+unfoldable pub copied : ℕ → List ℕ → List ℕ → List ℕ
+copied at from to = cond (leb (at + length from) (length to)) (overlay at from to) to

@@ -1,4 +1,4 @@
-// The copy between a buffer and an image: bytes over as many bytes, whatever their count. No sector is known here.
+// Bytes laid over others, whatever their count: a buffer into an image, a field into a header. No sector is known here.
 // Assumes nothing; no public function has a `requires`.
 ghost use mathlib.Core.Path.{_≡_};
 ghost use Prim.Native.Nat.{_+_, _<_, _≤_};
@@ -8,15 +8,18 @@ ghost use Rattle.copy.specs.Copy.{copied};
 // The most bytes of one chunk. No read or write moves more, so each is one chunk.
 const CHUNK_SIZE: usize = 65_536;
 
-// Copies all of from over the start of to. Does nothing where from is longer than to.
-pub fn copy(from: &[u8], to: &mut [u8])
-    ensures { λ _. ⌜ now (to .exit) ≡ copied (now (from .entry)) (now (to .entry)) ⌝ }
+// Lays all of from over the bytes of to from an offset on. Does nothing where they would reach past its end.
+pub fn lay(from: &[u8], to: &mut [u8], at: usize)
+    ensures { λ _. ⌜ now (to .exit) ≡ copied at (now (from .entry)) (now (to .entry)) ⌝ }
 {
     if to.len() < from.len() {
         return;
     }
-    let end = from.len();
-    copy_all(from, &mut to[..end]);
+    if to.len() - from.len() < at {
+        return;
+    }
+    let end = at + from.len();
+    copy_all(from, &mut to[at..end]);
 }
 
 // Two slices of one length, chunk by chunk.

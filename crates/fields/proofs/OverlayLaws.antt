@@ -48,6 +48,17 @@ overlay-rest at content bytes fits =
     let all : length rest ≤ length bytes - at = simp length-drop (omega arith) in
     simp (take-all (length bytes - at) rest all, drop-of-length-le rest all, append-nil, drop-drop, append-assoc)
 
+-- a part that is borrowed
+pub part-size : (at size : ℕ) (bytes : List ℕ) → at + size ≤ length bytes → length (take (at + size - at) (drop at bytes)) ≡ size
+part-size at size bytes fits = simp (length-take, length-drop) (omega arith)
+
+-- .. and comes back with as many bytes
+pub part-laid : (at size : ℕ) (content bytes : List ℕ) → length content ≡ size → putMid at (at + size - at) bytes content ≡ overlay at content bytes
+unfolding overlay
+part-laid at size content bytes whole =
+    let cut : at + size - at ≡ size = omega arith in
+    rw (cut, whole) (simp (drop-drop, append-assoc))
+
 -- just so many, by what fills any count of bytes
 pub overlay-filled : (at size : ℕ) (fill : ℕ → List ℕ) (bytes : List ℕ) → ((n : ℕ) → length (fill n) ≡ n) → at + size ≤ length bytes
     → putMid at (at + size - at) bytes (fill (length (take (at + size - at) (drop at bytes)))) ≡ overlay at (fill size) bytes

@@ -12,7 +12,8 @@ use Rattle.sector_map.specs.SectorMap.{firstSector}
 use Rattle.judgement.specs.{Judging.lockedAfter, Offsets.extentStart}
 use Rattle.aes.specs.declared.Direction.the-variants.{Encipher, Decipher}
 use Rattle.xts.specs.{Runs.{inUnits, convertedRun}, Units.{enciphered, deciphered}}
-use Rattle.xts.proofs.{PieceLaws.{part-size, part-laid}, RunLaws.run-fits, UnitLaws.{length-units, length-converted}}
+use Rattle.fields.proofs.OverlayLaws.{part-size, part-laid}
+use Rattle.xts.proofs.{RunLaws.run-fits, UnitLaws.{length-units, length-converted}}
 use Rattle.view.specs.Outcomes.{after}
 use Rattle.plaintext.specs.Plaintext.{plainFilledBy, plainWrittenBy, plainReadAnswer, plainWriteAnswer, PlainReadPost, PlainWritePost}
 use Rattle.plaintext.specs.declared.KeyedView.{KeyedView}

@@ -11,7 +11,8 @@ use Rattle.aes_words.specs.Words.{subWord, addWord}
 use Rattle.key_expansion.specs.KeyExpansion.{rotWord, powerOfX, roundConstant, turned, nextWord, grown, roundKeys}
 use Rattle.aes_steps.specs.Rounds.{round}
 use Rattle.aes.specs.Cipher.{roundKey, rounds, cipher, throughCipher}
-use Rattle.xts.specs.Units.{tweakBytes, raised, alphaByte, timesAlpha, underTweak, blocksUnder, firstTweak, convertedBy, dataKeys, tweakKeys, converted}
+use Rattle.xts.specs.Units.{tweakBytes, underTweak, blocksUnder, firstTweak, convertedBy, dataKeys, tweakKeys, converted}
+use Rattle.xts_tweaks.specs.Tweaks.{raised, alphaByte, timesAlpha}
 use Rattle.worked_cipher.specs.Units.{publishedKey, cipherCases}
 
 pub cipher-rows : Right cipherCases

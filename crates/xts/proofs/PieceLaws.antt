@@ -3,9 +3,8 @@
 use Prim.Native.Nat.{ℕ, zero, suc, _+_, _-_, _≤_}
 use native.Mathlib.Omega.{arith}
 use mathlib.Core.{Path.{_≡_, sym, ap, ap₂, _∙_}, List.{List, [], _++_, append-nil, append-assoc}}
-use lib.ListN.{length, take, drop, length-append, length-take, length-drop}
+use lib.ListN.{length, take, drop, length-append, length-take}
 use lib.Seq.{take-at, take-all, drop-drop}
-use borrow.Rule.Slice.PartMut.{putMid}
 use Rattle.fields.specs.Bytes.{overlay}
 
 -- what is laid over bytes stands behind those before it
@@ -16,17 +15,6 @@ take-overlay at content bytes fits =
     let front = take at bytes ++ content in
     let size : length front ≡ at + length content = simp (length-append, length-take) (omega arith) in
     take-at front (drop (at + length content) bytes) (at + length content) size
-
--- a part that is borrowed
-pub part-size : (at size : ℕ) (bytes : List ℕ) → at + size ≤ length bytes → length (take (at + size - at) (drop at bytes)) ≡ size
-part-size at size bytes fits = simp (length-take, length-drop) (omega arith)
-
--- a part that was borrowed and comes back with as many bytes
-pub part-laid : (at size : ℕ) (content bytes : List ℕ) → length content ≡ size → putMid at (at + size - at) bytes content ≡ overlay at content bytes
-unfolding overlay
-part-laid at size content bytes whole =
-    let cut : at + size - at ≡ size = omega arith in
-    rw (cut, whole) (simp (drop-drop, append-assoc))
 
 -- a conversion: n pieces of a size, the first in some state and each later one in the next
 module _ {State : Type 0} (size : ℕ) (next : State → State) (piece : State → List ℕ → List ℕ) (pieces : ℕ → State → List ℕ → List ℕ)

@@ -9,7 +9,8 @@ use Rattle.fields.specs.Bytes.{overlay}
 use Rattle.aes_words.specs.Words.{Words, inFours}
 use Rattle.aes_steps.specs.Blocks.{bytesOf}
 use Rattle.aes.specs.{Cipher.throughCipher, declared.Direction.Direction}
-use Rattle.xts.specs.{Runs.inUnits, Units.{timesAlpha, underTweak, blocksUnder, firstTweak, convertedBy, dataKeys, tweakKeys, converted}}
+use Rattle.xts.specs.{Runs.inUnits, Units.{underTweak, blocksUnder, firstTweak, convertedBy, dataKeys, tweakKeys, converted}}
+use Rattle.xts_tweaks.specs.Tweaks.{timesAlpha}
 use Rattle.xts.proofs.PieceLaws.{next-piece, all-done}
 
 pub length-bytes-of : (s : Words) → length (bytesOf s) ≡ 16

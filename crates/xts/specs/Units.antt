@@ -1,37 +1,19 @@
 -- XTS-AES-256 (IEEE 1619, 5.2 to 5.4) on units of 512 bytes, which are 32 blocks. Of a key of 64 bytes the first half keys the data, the
 -- second the tweak. Assumes nothing.
-use Prim.Native.Nat.{ℕ, zero, suc, _+_, _*_, _/_, _%_}
-use mathlib.Core.List.{List, [], _∷_, _++_}
-use lib.{Bits.bitXor, ListN.{getD, take, drop}}
+use Prim.Native.Nat.{ℕ, zero, suc}
+use mathlib.Core.List.{List, [], _++_}
+use lib.ListN.{take, drop}
 use Rattle.numbers.specs.Numbers.{littleEndianBytes}
 use Rattle.aes_words.specs.Words.{Words, inFours}
-use Rattle.aes_steps.specs.Blocks.{block, blockByte, bytesOf, addRoundKey}
+use Rattle.aes_steps.specs.Blocks.{bytesOf, addRoundKey}
 use Rattle.key_expansion.specs.KeyExpansion.{roundKeys}
+use Rattle.xts_tweaks.specs.Tweaks.{timesAlpha}
 use Rattle.aes.specs.Cipher.{cipher, throughCipher}
 use Rattle.aes.specs.declared.Direction.{Direction, the-variants.{Encipher, Decipher}}
 
 -- the sixteen bytes of a tweak number, the least significant first
 unfoldable pub tweakBytes : ℕ → List ℕ
 tweakBytes number = littleEndianBytes 16 number
-
--- a byte whose bits move up by one, with what comes into it
-unfoldable pub raised : ℕ → ℕ → ℕ
-raised carry byte = bitXor (2 * (byte % 128)) carry
-
--- a word's bytes so, each with what leaves the one before it
-unfoldable pub raisedWord : ℕ → List ℕ → List ℕ
-raisedWord carry w =
-    raised carry (getD w 0 0) ∷ raised (getD w 0 0 / 128) (getD w 1 0) ∷ raised (getD w 1 0 / 128) (getD w 2 0)
-    ∷ raised (getD w 2 0 / 128) (getD w 3 0) ∷ []
-
--- byte k of a block times α: the bits move up by one through the bytes, and what leaves the last comes to the first as 135
-unfoldable pub alphaByte : Words → ℕ → ℕ
-alphaByte t zero = raised (135 * (blockByte t 15 / 128)) (blockByte t 0)
-alphaByte t (suc k) = raised (blockByte t k / 128) (blockByte t (suc k))
-
--- a block times α
-unfoldable pub timesAlpha : Words → Words
-timesAlpha t = block (λ r c. alphaByte t (4 * c + r))
 
 -- a block through a cipher, under a tweak: the tweak is added before and after
 unfoldable pub underTweak : (Words → Words) → Words → Words → Words

@@ -88,7 +88,7 @@ fn convert_unit(
     while at < 512 {
         let block = blocks::under_tweak(tables, keys, direction, tweak, blocks::block_at(from, at));
         blocks::store(into, at, block);
-        let next = blocks::times_alpha(tweak);
+        let next = xts_tweaks::times_alpha(tweak);
         tweak = next;
         at += 16;
     }

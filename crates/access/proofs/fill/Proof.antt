@@ -14,7 +14,7 @@ returns c =
     let start = copy .before .before .before .before .before in
     let image : List ℕ = now (start .args .image) in
     let buffer : List ℕ = now (start .args .buffer) in
-    copy .copy .ensures ∙ copy-out image buffer (start .args .start) (start .pre)
+    copy .lay .ensures ∙ copy-out image buffer (start .args .start) (start .pre)
 
 pub fill-spec : {M : Type 1} → statement M
 fill-spec =

@@ -5,11 +5,10 @@ use native.Mathlib.Omega.{arith}
 use mathlib.Core.List.{List, _++_}
 use denote.Ref.{now}
 use lib.ListN.{length, take, drop}
-use Rattle.fields.proofs.OverlayLaws.{length-overlay}
+use Rattle.fields.proofs.OverlayLaws.{length-overlay, part-size, part-laid}
 use Rattle.aes_words.specs.Words.{Words}
 use Rattle.aes.specs.Cipher.{throughCipher}
 use Rattle.xts.specs.{Runs.inUnits, Units.{blocksUnder, convertedBy, converted}}
-use Rattle.xts.proofs.PieceLaws.{part-size, part-laid}
 use Rattle.xts.proofs.UnitLaws.{next-unit, units-done, length-converted-by}
 use borrow.Author.Needs.{needs}
 use Rattle.xts.proofs.convert_units.Statement.{statement}

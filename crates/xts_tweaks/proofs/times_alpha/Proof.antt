@@ -1,4 +1,4 @@
--- `xts::blocks::times_alpha` meets its contract. Assumes nothing.
+-- `xts_tweaks::times_alpha` meets its contract. Assumes nothing.
 use mathlib.Core.Path.{ap, _∙_}
 use Prim.Native.Nat.{ℕ}
 use lib.ListN.{getD}
@@ -6,10 +6,10 @@ use mathlib.Core.List.{[], _∷_}
 use Rattle.bits.specs.Bits.{entries}
 use Rattle.aes_steps.specs.Blocks.{byteAt, block, blockByte}
 use Rattle.aes_words.specs.Words.{word}
-use Rattle.xts.specs.Units.{raisedWord, alphaByte, timesAlpha}
+use Rattle.xts_tweaks.specs.Tweaks.{raisedWord, alphaByte, timesAlpha}
 use borrow.Author.Needs.{needs}
-use Rattle.xts.proofs.blocks.times_alpha.Statement.{statement}
-use Rattle.xts.proofs.blocks.times_alpha.Tie as tie
+use Rattle.xts_tweaks.proofs.times_alpha.Statement.{statement}
+use Rattle.xts_tweaks.proofs.times_alpha.Tie as tie
 
 returns : tie.Need-returns
 unfolding timesAlpha block word entries alphaByte blockByte byteAt raisedWord

@@ -1,9 +1,9 @@
--- `xts::blocks::raise_word` meets its contract. Assumes nothing.
+-- `xts_tweaks::raise_word` meets its contract. Assumes nothing.
 use mathlib.Core.Path.{refl}
-use Rattle.xts.specs.Units.{raised, raisedWord}
+use Rattle.xts_tweaks.specs.Tweaks.{raised, raisedWord}
 use borrow.Author.Needs.{needs}
-use Rattle.xts.proofs.blocks.raise_word.Statement.{statement}
-use Rattle.xts.proofs.blocks.raise_word.Tie as tie
+use Rattle.xts_tweaks.proofs.raise_word.Statement.{statement}
+use Rattle.xts_tweaks.proofs.raise_word.Tie as tie
 
 returns : tie.Need-returns
 unfolding raisedWord raised
