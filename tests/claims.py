@@ -12,17 +12,24 @@ sys.dont_write_bytecode = True
 sys.path.insert(0, str(Path(__file__).resolve().parent.parent / 'tools'))
 import rules  # noqa: E402
 from claims import PAGE, all_problems, called, claim_problems, is_call_row, problems  # noqa: E402
-from named import CLAIMING, CLAIMS, GUARANTEES, ROOT, read_files, read_repository, rows  # noqa: E402
+from named import CLAIMING, CLAIMS, ROOT, STATING, read_files, read_repository, rows  # noqa: E402
 
 RECORD = 'pub record Claims : Type 0 where\n  -- a claim\n  pub stated : ℕ\n  pub forgotten : ℕ\n'
 
 
 # Wrong pages: a name for what is wrong, and the page.
 
-def misspelt(page):
-    """Each name in backticks with a letter too many."""
-    for match in re.finditer(r'`[^`\n]+`', page):
-        yield f'{match[0]} misspelt', f'{page[:match.end() - 1]}x{page[match.end() - 1:]}'
+def misspelt(page, check, repository):
+    """The names in backticks that are not told of where each has a letter too many: the first of a row, then all others."""
+    names = list(re.finditer(r'`([^`\n]+)`', page))
+    for spoilt in ({name.start() for name in names if page[:name.start()].endswith('\n| ')} ^ every
+                   for every in (set(), {name.start() for name in names})):
+        text = re.sub(r'`([^`\n]+)`', lambda name: f'`{name[1]}x`' if name.start() in spoilt else name[0], page)
+        told = {(line, name) for line, sentence in check(text, repository) for name in re.findall(r'`([^`]+)`', sentence)}
+        for name in names:
+            line = page.count('\n', 0, name.start()) + 1
+            if name.start() in spoilt and not any(at == line and other.endswith(f'{name[1]}x') for at, other in told):
+                yield f'line {line}, {name[0]} misspelt'
 
 
 def with_ends(page, ends):
@@ -31,10 +38,10 @@ def with_ends(page, ends):
         yield end, f'{page}\n{end}\n'
 
 
-def foreign(crate, repository):
+def foreign(crates, repository):
     """An edit of other crates alone, and no other name."""
     edits = set().union(*(item.edits for item in repository.crates.values()))
-    return min(edits - repository.crates[crate].edits - repository.names)
+    return min(edits.difference(*(repository.crates[crate].edits for crate in crates)) - repository.names)
 
 
 def row_edits(row, repository):
@@ -44,7 +51,7 @@ def row_edits(row, repository):
     crate = called(row).split('::')[0]
     yield 'left out', ''
     yield 'with one edit', text.replace(edits, edits.split(',')[0])
-    yield 'with an edit of another crate', text.replace(edits, f'{edits}, `{foreign(crate, repository)}`')
+    yield 'with an edit of another crate', text.replace(edits, f'{edits}, `{foreign([crate], repository)}`')
     yield 'with another definition', text.replace(f'| {equals} |', '| `gather` |')
     yield 'with no definition', text.replace(f'| {equals} |', '| what it should |')
     yield 'for a private function', text.replace(first, '`layout::starts_after_headers`')
@@ -73,8 +80,7 @@ def wrong_rows(page, repository):
 
 def wrong_claims(page, repository):
     """Pages that docs/CLAIMS.md must not be."""
-    edit = foreign(GUARANTEES, repository)
-    yield from misspelt(page)
+    edit = foreign(STATING, repository)
     yield from wrong_rows(page, repository)
     yield from with_ends(page, [
         'All 12 edits are refused.', 'There are 1,200 proved functions.', 'The seven theorems.',
@@ -96,14 +102,13 @@ def wrong_bullets(page):
 def wrong_files(page):
     """The table of files with a row left out, or with another file's claim in it."""
     for row in rows(page):
-        if row.heads[0].startswith('file in '):
+        if row.heads[0] == 'file of claims':
             yield f'the row of {row.cells[0]} left out', with_line(page, row.line, '')
             yield f'the row of {row.cells[0]} with `numberOf`', with_line(page, row.line, f'| {row.cells[0]} | `numberOf` |')
 
 
 def wrong_rules(page):
     """Pages that docs/RULES.md must not be."""
-    yield from misspelt(page)
     yield from wrong_bullets(page)
     yield from wrong_files(page)
     yield from with_ends(page, [
@@ -172,6 +177,7 @@ def record_problems(repository):
 
 def claims_unnoticed(page, files):
     repository = read_repository(files)
+    yield from misspelt(page, all_problems, repository)
     for name, text in wrong_claims(page, repository):
         if not any(all_problems(text, repository)):
             yield name
@@ -182,6 +188,7 @@ def claims_unnoticed(page, files):
 
 def rules_unnoticed(page, files):
     repository = read_repository(files)
+    yield from misspelt(page, rules.all_problems, repository)
     for name, text in wrong_rules(page):
         if not any(rules.all_problems(text, repository)):
             yield name

@@ -10,8 +10,7 @@ from pathlib import Path
 
 sys.dont_write_bytecode = True
 sys.path.insert(0, str(Path(__file__).resolve().parent.parent / 'tools'))
-from moved import (all_items, compare_files, contracts, definitions, log_report, present_files, read_log,  # noqa: E402
-                   report)
+from moved import all_items, compare_files, contracts, definitions, present_files, report  # noqa: E402
 
 OLD = {
     'crates/low/specs/Bytes.antt': '''\
@@ -141,33 +140,6 @@ TOLD = '''\
 - stayed, letter by letter: 0 of 4 (high 0 of 2, low 0 of 2)
 '''
 
-OLD_LOG = '''\
-rt: low proved (11 s)
-rt: high proved (20 s)
-rt: must-fail low/one: refused, as it must be (first at specs/Bytes.antt:9:3; 12 s)
-rt: must-fail low/two: refused, as it must be (13 s)
-rt: tool ran as nobody, and wrote what its file 'stdout' has (0 s)
-gate: 70 s
-4 passed, 0 failed
-'''
-NEW_LOG = '''\
-rt: low proved (5 s)
-rt: middle proved (6 s)
-rt: high proved (20 s)
-rt: must-fail low/one: refused, as it must be (first at specs/Bytes.antt:9:3; 6 s)
-gate: 40 s
-'''
-SECONDS = '''\
-| seconds | check before | check after | edits before | edits after |
-|---|---|---|---|---|
-| low | 11 | 5 | 25 (2) | 6 (1) |
-| middle |  | 6 |  |  |
-| high | 20 | 20 |  |  |
-| all | 31 | 31 | 25 (2) | 6 (1) |
-| the whole gate | 70 | 40 |  |  |
-'''
-
-
 def edited(files):
     files = {path: text for path, text in files.items() if path not in
              ('crates/low/proofs/Laws.antt', 'crates/low/proofs/Other.antt')}
@@ -181,9 +153,6 @@ def made_up_problems():
     told = report(OLD, edited(OLD), 'kept')
     if told != TOLD:
         yield f'of the made-up repository it tells\n{told}'
-    seconds = log_report(read_log(OLD_LOG), read_log(NEW_LOG))
-    if seconds != SECONDS:
-        yield f'of the made-up logs it tells\n{seconds}'
 
 
 def missed(files):

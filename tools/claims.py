@@ -3,8 +3,8 @@
 
     tools/claims.py    fail where a page is wrong, with a sentence for each place
 
-named.py says what may stand in backticks; here, an edit of `guarantees` may stand without its crate. For RULES.md
-see rules.py, for CLAIMS.md here.
+named.py says what may stand in backticks; here, an edit of a crate that states claims may stand without its crate.
+For RULES.md see rules.py, for CLAIMS.md here.
 
 A table whose first head is "call" has a row for each public function: the function, as `crate::name`; what it
 equals, where each name is one that its contract cites; and last its must-fail edits, at least two of its own
@@ -25,8 +25,8 @@ import re
 import sys
 
 import rules
-from named import (CLAIMING, CLAIMS, GUARANTEES, ROOT, exists, is_edit, names_in, read_files, read_repository, rows,
-                   unended_problems)
+from named import (CLAIMING, CLAIMS, ROOT, STATING, exists, is_claim_edit, is_edit, names_in, read_files,
+                   read_repository, rows, unended_problems)
 
 PAGE = 'docs/CLAIMS.md'
 BOUNDARY = 'ondristela'
@@ -70,12 +70,12 @@ def name_problems(page, repository):
     calls = {row.line: row for row in rows(page) if is_call_row(row)}
     for name in names_in(page):
         edits = name.line in calls and f'`{name.text}`' in calls[name.line].cells[-1]
-        if not edits and not exists(name.text, repository) and not is_edit(name.text, GUARANTEES, repository):
+        if not edits and not exists(name.text, repository) and not is_claim_edit(name.text, repository):
             yield name.line, f'`{name.text}` is nowhere in the code'
     for line, names in edit_cells(page):
         for name in names:
-            if not is_edit(name, GUARANTEES, repository):
-                yield line, f'`{name}` is no must-fail edit of {GUARANTEES}'
+            if not is_claim_edit(name, repository):
+                yield line, f'`{name}` is no must-fail edit of {", ".join(STATING)}'
     for line, record, names in field_cells(page):
         for name in names:
             if name not in repository.records.get(record, set()):
@@ -152,7 +152,7 @@ def claim_problems(page, repository):
     end = page.count('\n') + 1
     for field in sorted(repository.claims - tried_fields(page)):
         yield end, f'no row has the field `{field}` of {CLAIMS} with a must-fail edit'
-    own = {name if '/' in name else f'{GUARANTEES}/{name}' for name in edits} | dotted
+    own = {f'{crate}/{name}' for crate in STATING for name in edits} | edits | dotted
     for crate in CLAIMING:
         for edit in sorted(repository.crates[crate].edits if crate in repository.crates else ()):
             if f'{crate}/{edit}' not in own:

@@ -1,10 +1,11 @@
 #!/usr/bin/env python3
 """Tells what moved in crates/ between a commit and the working tree, in Markdown for a note of docs/changes/.
 
-    tools/moved.py REV [--stayed PATTERN] [--log OLD NEW]
+    tools/moved.py REV [--stayed PATTERN]
 
     --stayed PATTERN    name what stayed, where `crate/name` matches: `.` for all, 'Refusal|^layout/' for some
-    --log OLD NEW       two logs of .ci/run or `rt ci`, before and after: the seconds of each crate and of the gate
+
+The seconds of such a note are seconds.py's.
 
 Compared are
 - definitions: each declaration of specs/, with the heads of the sections that it stands in, without comments;
@@ -29,7 +30,6 @@ Item = namedtuple('Item', 'crate file name')
 Text = namedtuple('Text', 'whole core')
 
 Changes = namedtuple('Changes', 'changed touched new gone moved renamed stayed')
-Seconds = namedtuple('Seconds', 'checks edits counts gate')
 
 
 # The texts of crates/ by path.
@@ -260,47 +260,12 @@ def report(old, new, pattern=None):
     return '\n'.join(lines)
 
 
-# The gate's logs.
-
-def read_log(text):
-    checks = {name: int(seconds) for name, seconds in re.findall(r'\brt: (\w+) proved \((\d+) s\)', text)}
-    edits, tried = Counter(), Counter()
-    for name, seconds in re.findall(r'\brt: must-fail (\w+)/\w+: refused.*?(\d+) s\)', text):
-        edits[name] += int(seconds)
-        tried[name] += 1
-    gate = re.search(r'^gate: (\d+) s$', text, re.M)
-    return Seconds(checks, edits, tried, int(gate[1]) if gate else None)
-
-
-def crate_cells(log, name):
-    """A crate's check, and what its must-fail edits took together."""
-    return log.checks.get(name, ''), f'{log.edits[name]} ({log.counts[name]})' if log.counts[name] else ''
-
-
-def total_cells(log):
-    return sum(log.checks.values()), f'{log.edits.total()} ({log.counts.total()})'
-
-
-def log_report(old, new):
-    """A table of seconds, before and after; those of edits with their count behind them."""
-    names = dict.fromkeys([*new.checks, *old.checks])
-    rows = [(name, crate_cells(old, name), crate_cells(new, name)) for name in names]
-    rows.append(('all', total_cells(old), total_cells(new)))
-    if old.gate and new.gate:
-        rows.append(('the whole gate', (old.gate, ''), (new.gate, '')))
-    head = '| seconds | check before | check after | edits before | edits after |\n|---|---|---|---|---|\n'
-    return head + ''.join(f'| {name} | {a} | {b} | {c} | {d} |\n' for name, (a, c), (b, d) in rows)
-
-
 def main():
     parser = argparse.ArgumentParser(description=__doc__, formatter_class=argparse.RawDescriptionHelpFormatter)
     parser.add_argument('revision', metavar='REV')
     parser.add_argument('--stayed', metavar='PATTERN')
-    parser.add_argument('--log', nargs=2, metavar=('OLD', 'NEW'))
     words = parser.parse_args()
     print(report(committed_files(words.revision), present_files(), words.stayed))
-    if words.log:
-        print(log_report(*(read_log(Path(path).read_text()) for path in words.log)), end='')
 
 
 if __name__ == '__main__':

@@ -19,16 +19,17 @@ from pathlib import Path
 
 ROOT = Path(__file__).resolve().parent.parent
 CLAIMS = 'crates/guarantees/specs/Claims.antt'
-GUARANTEES = 'guarantees'
-# The crates whose specs say claims, or what claims are said in; each of their must-fail edits makes one wrong.
-CLAIMING = (GUARANTEES, 'model', 'worked_cases', 'worked_headers', 'worked_cipher')
+# The crates whose specs state the claims that the record Claims holds.
+STATING = ('header_claims', 'access_claims', 'guarantees')
+# .. and those that have what claims are said in, or cases; each must-fail edit of all these makes a claim wrong.
+CLAIMING = (*STATING, 'model', 'worked_headers', 'worked_sectors', 'worked_cipher', 'worked_cases')
 
 # Words of Rattle and C that may stand in backticks.
 PLAIN = {'requires', '&mut', 'memmove'}
 
 Function = namedtuple('Function', 'place cited requires contract hands_on')
 Crate = namedtuple('Crate', 'edits names functions')
-Repository = namedtuple('Repository', 'paths crates declared names records claims')
+Repository = namedtuple('Repository', 'paths crates declared names records claims stated')
 Row = namedtuple('Row', 'line heads cells')
 Name = namedtuple('Name', 'line text')
 
@@ -136,6 +137,14 @@ def read_declared(files):
     return {path: readers[Path(path).suffix](text) for path, text in files.items() if Path(path).suffix in readers}
 
 
+def read_stated(crates, declared):
+    """What the specs of the crates of claims declare, and the public functions of these crates."""
+    there = [crate for crate in CLAIMING if crate in crates]
+    specs = tuple(f'crates/{crate}/specs' for crate in there)
+    names = set().union(*(names for path, names in declared.items() if path.startswith(specs)))
+    return names, set().union(*(crates[crate].functions for crate in there))
+
+
 def parts_of(path):
     """What may be written of a path: it or a folder of it, from any folder on."""
     parts = path.split('/')
@@ -148,7 +157,7 @@ def read_repository(files):
     claims = spec_records(files[CLAIMS]).get('Claims', set()) if CLAIMS in files else None
     paths = set().union(*map(parts_of, files))
     names = set().union(*declared.values(), crates)
-    return Repository(paths, crates, declared, names, read_records(files), claims)
+    return Repository(paths, crates, declared, names, read_records(files), claims, read_stated(crates, declared))
 
 
 def read_files():
@@ -231,6 +240,11 @@ def is_edit(name, crate, repository):
     owner, _, edit = name.rpartition('/')
     owner = owner or crate
     return owner in repository.crates and edit in repository.crates[owner].edits
+
+
+def is_claim_edit(name, repository):
+    """An edit of a crate that states claims, which may stand without its crate, or one that is written with its crate."""
+    return any(is_edit(name, crate, repository) for crate in STATING)
 
 
 def is_in_crate(name, repository):

@@ -5,16 +5,15 @@ named.py says what may stand in backticks; here also one of WORDS.
 A rule's bullet "definition: `a`, `b` (path); claim: `c`" has behind its definitions the file under crates/ that
 declares them, and as claims what specs of a crate of claims declare, or a function of one. In a table the head of
 a column is "definition (path)" or "claim". A column headed "edit" has one edit or more, with their crates, and nothing
-else. The table headed "file in guarantees/specs" has a row for every file there, with names that the file declares.
+else. The table headed "file of claims" has a row for every file of the specs that state claims, with names that the file declares.
 """
 import re
 from pathlib import Path
 
-from named import (CLAIMING, GUARANTEES, PLAIN, block_names, blocks, exists, is_declared, is_edit, names_in, rows,
+from named import (PLAIN, STATING, block_names, blocks, exists, is_declared, is_edit, names_in, rows,
                    unended_problems)
 
 PAGE = 'docs/RULES.md'
-SPECS = f'crates/{GUARANTEES}/specs'
 
 # Words of the map program's output, and the bytes of the published check value.
 WORDS = set('mark VERA TRUE version needs kind standard hidden host start size sectors first last'.split())
@@ -23,10 +22,7 @@ WORDS |= {'refused 1', 'refused N', '123456789'}
 
 def is_claim(name, repository):
     """What specs of a crate of claims declare, or a public function of one."""
-    crates = [crate for crate in CLAIMING if crate in repository.crates]
-    specs = tuple(f'crates/{crate}/specs' for crate in crates)
-    stated = set().union(*(names for path, names in repository.declared.items() if path.startswith(specs)))
-    functions = set().union(*(repository.crates[crate].functions for crate in crates))
+    stated, functions = repository.stated
     return name in PLAIN | functions or is_declared(name, stated, repository)
 
 
@@ -101,14 +97,15 @@ def table_problems(page, repository):
 
 def list_problems(page, repository):
     """The table of the files of claims."""
-    files = {Path(path).name for path in repository.declared if path.startswith(SPECS)} - {'Lib.antt'}
+    specs = tuple(f'crates/{crate}/specs/' for crate in STATING)
+    files = {path for path in repository.declared if path.startswith(specs) and Path(path).name != 'Lib.antt'}
     for row in rows(page):
-        if row.heads[0] == f'file in {GUARANTEES}/specs':
-            file = row.cells[0].strip('`')
-            files.discard(file)
-            yield from file_problems(block_names(row.line, row.cells[1]), f'{SPECS}/{file}', repository)
-    for file in sorted(files):
-        yield page.count('\n') + 1, f'no row has the claims of {SPECS}/{file}'
+        if row.heads[0] == 'file of claims':
+            path = f'crates/{row.cells[0].strip("`")}'
+            files.discard(path)
+            yield from file_problems(block_names(row.line, row.cells[1]), path, repository)
+    for path in sorted(files):
+        yield page.count('\n') + 1, f'no row has the claims of {path}'
 
 
 def all_problems(page, repository):

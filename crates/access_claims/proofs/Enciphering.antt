@@ -16,7 +16,7 @@ use Rattle.judgement.specs.Offsets.{extentStart}
 use Rattle.sector_map.specs.SectorMap.{firstSector, hostSector, tweakNumber, blockOf, tweakOf}
 use Rattle.xts.specs.Units.{tweakBytes}
 use Rattle.xts.proofs.UnitLaws.{length-converted}
-use Rattle.cipher_laws.proofs.{InverseLaws.product-inverse, SBoxLaws.{restored-substituted, substituted-restored}}
+use Rattle.field_laws.proofs.{InverseLaws.product-inverse, SBoxLaws.{restored-substituted, substituted-restored}}
 use Rattle.cipher_laws.proofs.UnitLaws.{deciphered-enciphered, enciphered-deciphered}
 use Rattle.access_claims.specs.Enciphering.{KeepsField, EnciphersExactly, SpellsTweaks, TweaksSectors}
 use Rattle.header_claims.specs.SectorMap.{Sound}

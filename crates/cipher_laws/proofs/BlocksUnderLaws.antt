@@ -9,8 +9,8 @@ use Rattle.aes_words.specs.Words.{Words, inFours}
 use Rattle.aes_steps.specs.Blocks.{bytesOf}
 use Rattle.xts_tweaks.specs.Tweaks.{timesAlpha}
 use Rattle.xts.specs.Units.{underTweak, blocksUnder}
-use Rattle.cipher_laws.specs.Blocks.{Small, Undone}
-use Rattle.cipher_laws.proofs.BlockLaws.{in-fours-block, bytes-in-fours, in-fours-bytes, bytes-of-small}
+use Rattle.mix_laws.specs.Blocks.{Small, Undone}
+use Rattle.mix_laws.proofs.BlockLaws.{in-fours-block, bytes-in-fours, in-fours-bytes, bytes-of-small}
 use Rattle.cipher_laws.proofs.{StepLaws.add-round-key-undone, TweakLaws.times-alpha-small, UndoneLaws.undone-then}
 
 module _ {f g : Words → Words} (undone : Undone f g) where

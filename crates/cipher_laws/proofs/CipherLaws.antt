@@ -6,9 +6,11 @@ use Rattle.aes_steps.specs.Blocks.{subBytes, invSubBytes, shiftRows, invShiftRo
 use Rattle.aes_steps.specs.Rounds.{round, invRound}
 use Rattle.aes.specs.Cipher.{roundKey, rounds, invRounds, cipher, invCipher, throughCipher}
 use Rattle.aes.specs.declared.Direction.{Direction, the-variants.{Encipher, Decipher}}
-use Rattle.cipher_laws.specs.{Blocks.{Small, Undone, Inverses}, Directions.opposite}
+use Rattle.mix_laws.specs.Blocks.{Small, Undone, Inverses}
+use Rattle.cipher_laws.specs.Directions.{opposite}
 use Rattle.cipher_laws.proofs.StepLaws.{sub-bytes-inverses, shift-rows-inverses, add-round-key-undone}
-use Rattle.cipher_laws.proofs.{MixLaws.mix-columns-inverses, UndoneLaws.inverses-then}
+use Rattle.mix_laws.proofs.MixLaws.{mix-columns-inverses}
+use Rattle.cipher_laws.proofs.UndoneLaws.{inverses-then}
 
 sub-shift-inverses : Inverses (λ s. shiftRows (subBytes s)) (λ s. invSubBytes (invShiftRows s))
 sub-shift-inverses = inverses-then sub-bytes-inverses shift-rows-inverses

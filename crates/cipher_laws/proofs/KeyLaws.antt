@@ -9,7 +9,7 @@ use Rattle.aes_words.specs.Words.{Words, inFours}
 use Rattle.aes_steps.specs.Blocks.{byteAt}
 use Rattle.key_expansion.specs.KeyExpansion.{nextWord, grown, roundKeys}
 use Rattle.aes.specs.Cipher.{roundKey}
-use Rattle.cipher_laws.specs.Blocks.{SmallWord, Small}
+use Rattle.mix_laws.specs.Blocks.{SmallWord, Small}
 use Rattle.cipher_laws.proofs.WordLaws.{next-word-small}
 
 words-small : (n : ℕ) (bytes : List ℕ) → Bytes bytes → Small (inFours n bytes)

@@ -7,9 +7,9 @@ use Rattle.bits.proofs.XorLaws.{xor-cancel-right}
 use Rattle.aes_words.specs.Words.{Words, word}
 use Rattle.aes_steps.specs.Blocks.{byteAt, block, subBytes, invSubBytes, shiftRows, invShiftRows, addRoundKey}
 use Rattle.aes_tables.specs.SBox.{substituted, restored}
-use Rattle.cipher_laws.specs.Blocks.{Small, Undone, Inverses}
-use Rattle.cipher_laws.proofs.BlockLaws.{block-block, block-same}
-use Rattle.cipher_laws.proofs.SBoxLaws.{substituted-byte, restored-byte, restored-substituted, substituted-restored}
+use Rattle.mix_laws.specs.Blocks.{Small, Undone, Inverses}
+use Rattle.mix_laws.proofs.BlockLaws.{block-block, block-same}
+use Rattle.field_laws.proofs.SBoxLaws.{substituted-byte, restored-byte, restored-substituted, substituted-restored}
 
 -- each byte made another one, by its row and column
 each-undone : (f g : ℕ → ℕ → ℕ → ℕ) → ((r c b : ℕ) → b < 256 → f r c b < 256) → ((r c b : ℕ) → b < 256 → g r c (f r c b) ≡ b)

@@ -9,8 +9,9 @@ use Rattle.aes_steps.specs.Blocks.{blockByte}
 use Rattle.aes.specs.Cipher.{roundKey}
 use Rattle.xts.specs.Units.{tweakBytes, firstTweak}
 use Rattle.xts_tweaks.specs.Tweaks.{raised, alphaByte, timesAlpha}
-use Rattle.cipher_laws.specs.Blocks.{Small}
-use Rattle.cipher_laws.proofs.{BlockLaws.{block-block, in-fours-block}, CipherLaws.cipher-inverses}
+use Rattle.mix_laws.specs.Blocks.{Small}
+use Rattle.mix_laws.proofs.BlockLaws.{block-block, in-fours-block}
+use Rattle.cipher_laws.proofs.CipherLaws.{cipher-inverses}
 
 raised-byte : (carry byte : ℕ) → carry < 256 → raised carry byte < 256
 unfolding raised

@@ -1,7 +1,7 @@
 -- Functions that undo one another, one after another. Assumes nothing.
 use mathlib.Core.Path.{ap, _∙_}
 use Rattle.aes_words.specs.Words.{Words}
-use Rattle.cipher_laws.specs.Blocks.{Undone, Inverses}
+use Rattle.mix_laws.specs.Blocks.{Undone, Inverses}
 
 pub undone-then : {f g f′ g′ : Words → Words} → Undone f g → Undone f′ g′ → Undone (λ s. f′ (f s)) (λ s. g (g′ s))
 undone-then {f = f} {g = g} first next =

@@ -6,7 +6,8 @@ use Rattle.bits.specs.Bits.{Bytes}
 use Rattle.bits.proofs.BytesLaws.{bytes-take, bytes-drop}
 use Rattle.aes.specs.{Cipher.throughCipher, declared.Direction.{Direction, the-variants.{Encipher, Decipher}}}
 use Rattle.xts.specs.Units.{firstTweak, convertedBy, dataKeys, tweakKeys, converted, enciphered, deciphered}
-use Rattle.cipher_laws.specs.{Blocks.{Small, Undone}, Directions.opposite}
+use Rattle.mix_laws.specs.Blocks.{Small, Undone}
+use Rattle.cipher_laws.specs.Directions.{opposite}
 use Rattle.cipher_laws.proofs.BlocksUnderLaws.{blocks-bytes, blocks-back}
 use Rattle.cipher_laws.proofs.{CipherLaws.through-undone, KeyLaws.round-key-small, TweakLaws.first-tweak-small}
 

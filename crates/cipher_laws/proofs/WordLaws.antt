@@ -9,8 +9,9 @@ use Rattle.aes_tables.specs.SBox.{substituted}
 use Rattle.key_expansion.specs.KeyExpansion.{rotWord}
 use Rattle.aes_mixing.proofs.FieldLaws.{product-2, product-byte}
 use Rattle.key_expansion.specs.KeyExpansion.{powerOfX, roundConstant, turned, nextWord}
-use Rattle.cipher_laws.specs.Blocks.{SmallWord, Small}
-use Rattle.cipher_laws.proofs.{BlockLaws.word-small, SBoxLaws.substituted-byte}
+use Rattle.mix_laws.specs.Blocks.{SmallWord, Small}
+use Rattle.mix_laws.proofs.BlockLaws.{word-small}
+use Rattle.field_laws.proofs.SBoxLaws.{substituted-byte}
 
 power-byte : (n : ℕ) → powerOfX n < 256
 unfolding powerOfX

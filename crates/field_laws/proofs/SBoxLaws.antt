@@ -5,7 +5,7 @@ use mathlib.Core.Path.{_≡_, ap, _∙_}
 use Rattle.bits.proofs.TestLaws.{same-below}
 use Rattle.aes_tables.specs.Field.{inverse}
 use Rattle.aes_tables.specs.SBox.{bit, byteOf, affine, inverseAffine, substituted, restored}
-use Rattle.cipher_laws.proofs.InverseLaws.{inverse-byte, inverse-inverse}
+use Rattle.field_laws.proofs.InverseLaws.{inverse-byte, inverse-inverse}
 
 -- eight bits are a byte
 byte-of-bits : (f : ℕ → ℕ) → byteOf (λ i. f i % 2) < 256

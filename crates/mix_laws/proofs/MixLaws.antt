@@ -9,8 +9,8 @@ use Rattle.aes_words.specs.Words.{Words, word}
 use Rattle.aes_steps.specs.Blocks.{byteAt, block}
 use Rattle.aes_mixing.specs.Mixing.{mixed, mixedWord, eachColumn, mixColumns, invMixColumns}
 use Rattle.aes_mixing.proofs.FieldLaws.{product-sum, product-byte}
-use Rattle.cipher_laws.specs.Blocks.{SmallWord, Small, Block, Undone, Inverses}
-use Rattle.cipher_laws.proofs.BlockLaws.{block-block}
+use Rattle.mix_laws.specs.Blocks.{SmallWord, Small, Block, Undone, Inverses}
+use Rattle.mix_laws.proofs.BlockLaws.{block-block}
 
 -- the same at every byte, by a test
 abbrev Alike : (ℕ → ℕ) → (ℕ → ℕ) → Type 0

@@ -7,7 +7,7 @@ use Rattle.bits.specs.Bits.{Bytes, entries}
 use Rattle.bits.proofs.{BytesLaws.bytes-every, EntriesLaws.{entries-every, entries-getD}}
 use Rattle.aes_words.specs.Words.{Words, word, inFours}
 use Rattle.aes_steps.specs.Blocks.{byteAt, block, blockByte, bytesOf}
-use Rattle.cipher_laws.specs.Blocks.{SmallWord, Small, Block}
+use Rattle.mix_laws.specs.Blocks.{SmallWord, Small, Block}
 
 -- ---- by row and column
 

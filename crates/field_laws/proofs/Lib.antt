@@ -1,0 +1,2 @@
+pub mod InverseLaws
+pub mod SBoxLaws
