@@ -6,7 +6,7 @@ use mathlib.Core.{Path.{_≡_, refl, _∙_}, List.List}
 use lib.ListN.{length}
 use Rattle.answers.specs.Answers.{numberedRefusal, answerRefusal, answerSector, placementRefusal}
 use Rattle.layout.specs.Opened.{openedRefusal}
-use Rattle.opening.specs.Opening.{keysOffset, keysSize}
+use Rattle.key_bytes.specs.KeyBytes.{keysOffset, keysSize}
 use Rattle.opening.proofs.OpenedLaws.{opened-inside}
 use Rattle.header_writing.specs.HeaderWriting.{writtenRefusal}
 use Rattle.sector_map.specs.SectorMap.{tweakOf, tweakNumber}

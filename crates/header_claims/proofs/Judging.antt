@@ -8,7 +8,7 @@ use borrow.Author.Tests.{ne-eqb}
 use Rattle.layout.specs.declared.{Layout.Layout, Opened.{Opened, the-variants.{Accepted, Refused}}}
 use Rattle.header.specs.Header.{magicOf, fieldsOf, checksumsMatch, isHeader, reservedRule, judge}
 use Rattle.header_format.specs.Format.{versionRule}
-use Rattle.opening.specs.Opening.{keysOffset, keysSize}
+use Rattle.key_bytes.specs.KeyBytes.{keysOffset, keysSize}
 use Rattle.header_claims.specs.Header.{veraLetters, trueLetters, IsHeader, Line, number, Keeps, FirstBroken, Tells}
 use Rattle.header_claims.specs.Judging.{KeepsRules, JudgesExactly, GivesKeys}
 use Rattle.header_claims.proofs.Reflects.{Reflects, holds, fails, is-false, true-exactly, reflects-map, reflects-and, reflects-eqb, reflects-leb}

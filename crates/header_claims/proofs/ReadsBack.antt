@@ -7,7 +7,8 @@ use borrow.Author.Tests.{leb-true}
 use Rattle.fields.specs.Bytes.{part, sameBytes, allZero}
 use Rattle.layout.specs.declared.{Layout.Layout, Opened.{Opened, the-variants.Accepted}}
 use Rattle.header_format.specs.Format.{magicNumber}
-use Rattle.opening.specs.Opening.{opened, keysOffset, keysSize, KeyBytes}
+use Rattle.opening.specs.Opening.{opened}
+use Rattle.key_bytes.specs.KeyBytes.{keysOffset, keysSize, KeyBytes}
 use Rattle.new_header.specs.NewHeader.{newFields, newHeader}
 use Rattle.header_writing.specs.{HeaderWriting.{askedLayout, headerLeft}, declared.Written.{Written, the-variants.Done}}
 use Rattle.header_writing.proofs.AnswerLaws.{Passed, done-passed, done-lengths}

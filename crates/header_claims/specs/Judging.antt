@@ -8,7 +8,7 @@ use Rattle.layout.specs.Rules.{standard, hidden, multiple, hostSizeRule, sector
 use Rattle.layout.specs.declared.{Layout.Layout, Opened.the-variants.{Accepted, Refused}}
 use Rattle.header_format.specs.Format.{magicNumber, versionRule}
 use Rattle.header.specs.Header.{judge}
-use Rattle.opening.specs.Opening.{KeyBytes}
+use Rattle.key_bytes.specs.KeyBytes.{KeyBytes}
 use Rattle.header_claims.specs.Header.{bytesAt, veraLetters, trueLetters, Multiple, SectorSize, KnownKind}
 use Rattle.header_claims.specs.Header.{DataArea, IsHeader, Line, number, Keeps, FirstBroken, Tells}
 use Rattle.header_claims.specs.{Opening.HostSize, SectorMap.Sound}

@@ -6,7 +6,8 @@ use mathlib.Core.{Path._≡_, Logic.{_⊎_, _↔_}, Bool.true, List.{List, [], _
 use lib.ListN.{length}
 use Rattle.bits.specs.Bits.{Bytes}
 use Rattle.layout.specs.declared.{Layout.Layout, Opened.the-variants.Accepted}
-use Rattle.opening.specs.Opening.{opened, KeyBytes}
+use Rattle.opening.specs.Opening.{opened}
+use Rattle.key_bytes.specs.KeyBytes.{KeyBytes}
 use Rattle.numbers.specs.Numbers.{bigEndianBytes}
 use Rattle.crc32.specs.Crc32.{crc32}
 use Rattle.header_format.specs.Format.{newLengthsRule}

@@ -12,7 +12,8 @@ use Rattle.locations.specs.Locations.{locationOf}
 use Rattle.header_format.specs.Format.{headerBytes}
 use Rattle.header.specs.Header.{judge}
 use Rattle.header.proofs.JudgeLaws.{refused-accepted, judge-candidate}
-use Rattle.opening.specs.Opening.{maxCandidates, lengthsRule, codesRule, candidateAt, judgements, further, searched, opened, keysOffset}
+use Rattle.opening.specs.Opening.{maxCandidates, lengthsRule, codesRule, candidateAt, judgements, further, searched, opened}
+use Rattle.key_bytes.specs.KeyBytes.{keysOffset}
 
 module _ (candidates codes : List ℕ) (kept : lengthsRule candidates codes ≡ true) where
   pub lengths-most : length codes ≤ maxCandidates

@@ -1,12 +1,12 @@
--- Opening (RULES.md, Opening): the tests before any candidate, the search in order, and the key bytes.
--- What the contracts of `open` and `key_bytes` cite. Assumes nothing.
-use Prim.Native.Nat.{ℕ, suc, _+_, _*_}
-use mathlib.Core.{Path._≡_, Bool.{Bool, true, _&&_, cond}, List.{List, [], _∷_, foldl}}
+-- Opening (RULES.md, Opening): the tests before any candidate, and the search in order. What the contract of `opening::open` cites.
+-- Assumes nothing.
+use Prim.Native.Nat.{ℕ, suc, _*_}
+use mathlib.Core.{Bool.{Bool, true, _&&_, cond}, List.{List, [], _∷_, foldl}}
 use lib.{Dec.{leb, eqb}, ListN.length}
 use Rattle.answers.specs.Answers.{line}
 use Rattle.layout.specs.{Rules.hostSizeRule, declared.Opened.{Opened, the-variants.{Accepted, Refused}}}
 use Rattle.fields.specs.Bytes.{part}
-use Rattle.header_format.specs.Format.{headerBytes, keysField}
+use Rattle.header_format.specs.Format.{headerBytes}
 use Rattle.header.specs.Header.{judge}
 use Rattle.locations.specs.Locations.{codeRule, locationOf}
 
@@ -51,18 +51,3 @@ opened candidates codes hostSize =
     line (Refused 1) (lengthsRule candidates codes)
     (line (Refused 2) (codesRule codes)
     (line (Refused 3) (hostSizeRule hostSize) (searched candidates hostSize codes)))
-
--- where the key bytes stand in the candidates: in their field of the accepted one, and at the start where opening refuses
-unfoldable pub keysOffset : Opened → ℕ
-keysOffset (Accepted layout) = layout .candidate * headerBytes + keysField .offset
-keysOffset (Refused number) = 0
-
--- how many key bytes there are: those of the field, and none where opening refuses
-unfoldable pub keysSize : Opened → ℕ
-keysSize (Accepted layout) = keysField .size
-keysSize (Refused number) = 0
-
--- the key bytes: what they hold, and that they are that part of the candidates itself, at its address: block, and offset there
-pub record KeyBytes (answer : Opened) (candidates : List ℕ) (borrowed : ℕ × ℕ) (keys : List ℕ) (returned : ℕ × ℕ) : Type 0 where
-  pub content : keys ≡ part (keysOffset answer) (keysSize answer) candidates
-  pub address : returned ≡ (borrowed .0, keysOffset answer + borrowed .1)

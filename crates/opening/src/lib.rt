@@ -1,15 +1,12 @@
-// Opening a volume: which of the candidates is accepted, and its key bytes.
+// Opening a volume: which of the candidates is accepted.
 // Assumes nothing; no public function has a `requires`.
 ghost use mathlib.Core.Path.{_≡_};
 ghost use mathlib.Core.Bool.{true, _&&_};
 ghost use Prim.Native.Nat.{_*_, _≤_};
 ghost use lib.ListN.{length};
-ghost use denote.Ref.{ptr};
 ghost use Rattle.layout.specs.declared.Opened.the-variants.{Refused};
 ghost use Rattle.locations.specs.Locations.{codeRule};
-ghost use Rattle.opening.specs.Opening.{lengthsRule, codesRule, further, searched, opened, KeyBytes};
-use header_format::KEYS;
-use header_format::KEYS_SIZE;
+ghost use Rattle.opening.specs.Opening.{lengthsRule, codesRule, further, searched, opened};
 use header_format::SIZE;
 use layout::Opened;
 
@@ -32,19 +29,6 @@ pub fn open(candidates: &[u8], codes: &[u8], host_size: u64) -> Opened
         return Opened::Refused(3);
     }
     search_in_order(candidates, codes, host_size)
-}
-
-// The key bytes of the accepted candidate: a part of candidates itself, not a copy. Where opening
-// refuses, the empty part at its start.
-pub fn key_bytes<'a>(candidates: &'a [u8], codes: &[u8], host_size: u64) -> &'a [u8]
-    ensures { λ r. ⌜ KeyBytes (opened (now (candidates .entry)) (now (codes .entry)) «host_size») (now (candidates .entry)) (ptr (candidates .entry)) (now r) (ptr r) ⌝ }
-{
-    let answer = open(candidates, codes, host_size);
-    let Opened::Accepted(layout) = answer else {
-        return &candidates[..0];
-    };
-    let keys = layout.candidate as usize * SIZE + KEYS;
-    &candidates[keys..keys + KEYS_SIZE]
 }
 
 fn lengths_agree(candidates: &[u8], codes: &[u8]) -> bool

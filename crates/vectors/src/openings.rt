@@ -14,7 +14,7 @@ pub fn open(candidates: &[u8], codes: &[u8], host_size: u64) {
     let mut layout = [0u64; views::LAYOUT_SIZE];
     let refusal = ondristela::ondristela_open(candidates, codes, host_size, &mut layout);
     print_layout(refusal, &layout);
-    print_keys(opening::key_bytes(candidates, codes, host_size));
+    print_keys(key_bytes::key_bytes(candidates, codes, host_size));
 }
 
 // The answer, and the layout as it is left: zeros where it is refused.

@@ -4,7 +4,7 @@ use Prim.Native.Nat.{_+_, _*_, _≤_}
 use mathlib.Core.Path.{refl, subst}
 use Rattle.layout.specs.{declared.Opened.Opened, Opened.openedRefusal}
 use native.Mathlib.Omega.{arith}
-use Rattle.opening.specs.Opening.{keysOffset, keysSize}
+use Rattle.key_bytes.specs.KeyBytes.{keysOffset, keysSize}
 use Rattle.boundary_opening.specs.BoundaryOpening.{keysLeft}
 use borrow.Author.Needs.{needs}
 use Rattle.boundary_opening.proofs.give_keys.Statement.{statement}

@@ -1,4 +1,4 @@
--- `opening::key_bytes` meets its contract: the accepted candidate lies whole in the candidates, so its keys do.
+-- `key_bytes::key_bytes` meets its contract: the accepted candidate lies whole in the candidates, so its keys do.
 -- Assumes nothing.
 use Prim.Native.Nat.{ℕ, _+_, _*_, _≤_}
 use mathlib.Core.Path.{_≡_, refl, sym, ap, _∙_}
@@ -8,11 +8,12 @@ use lib.ListN.{length}
 use denote.Ref.{now, ptr}
 use Rattle.layout.specs.declared.Opened.the-variants.{Accepted}
 use Rattle.header_format.specs.Format.{headerBytes}
-use Rattle.opening.specs.Opening.{maxCandidates, opened, keysOffset, keysSize}
+use Rattle.opening.specs.Opening.{maxCandidates, opened}
+use Rattle.key_bytes.specs.KeyBytes.{keysOffset, keysSize}
 use Rattle.opening.proofs.OpenedLaws.{opened-inside}
 use borrow.Author.Needs.{needs}
-use Rattle.opening.proofs.key_bytes.Statement.{statement}
-use Rattle.opening.proofs.key_bytes.Tie as tie
+use Rattle.key_bytes.proofs.key_bytes.Statement.{statement}
+use Rattle.key_bytes.proofs.key_bytes.Tie as tie
 
 -- where the layout was taken out, opening accepts it
 accepted : (c : tie.After-known-told)
