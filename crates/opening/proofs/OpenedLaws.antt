@@ -13,7 +13,6 @@ use Rattle.header_format.specs.Format.{headerBytes}
 use Rattle.header.specs.Header.{judge}
 use Rattle.header.proofs.JudgeLaws.{refused-accepted, judge-candidate}
 use Rattle.opening.specs.Opening.{maxCandidates, lengthsRule, codesRule, candidateAt, judgements, further, searched, opened}
-use Rattle.key_bytes.specs.KeyBytes.{keysOffset}
 
 module _ (candidates codes : List ℕ) (kept : lengthsRule candidates codes ≡ true) where
   pub lengths-most : length codes ≤ maxCandidates
@@ -74,16 +73,3 @@ module _ (candidates : List ℕ) (hostSize : ℕ) (layout : Layout) where
       let whole : length candidates ≡ length codes * headerBytes = lengths-whole candidates codes (f .0) in
       let most : length codes ≤ maxCandidates = lengths-most candidates codes (f .0) in
       (omega arith, omega arith)
-
-keys-inside : (candidates : List ℕ) (hostSize : ℕ) (codes : List ℕ) (answer : Opened) → opened candidates codes hostSize ≡ answer
-    → keysOffset answer ≤ maxCandidates * headerBytes
-unfolding keysOffset
-keys-inside candidates hostSize codes (Accepted layout) e =
-    let inside = opened-inside candidates hostSize layout codes e in
-    omega (arith, inside .0, inside .1)
-keys-inside candidates hostSize codes (Refused number) e = omega arith
-
--- the key bytes start within the longest candidates
-pub keys-offset-most : (candidates : List ℕ) (hostSize : ℕ) (codes : List ℕ)
-    → keysOffset (opened candidates codes hostSize) ≤ maxCandidates * headerBytes
-keys-offset-most candidates hostSize codes = keys-inside candidates hostSize codes (opened candidates codes hostSize) refl

@@ -3,7 +3,7 @@
 use Rattle.layout.specs.Opened.{openedRefusal}
 use Rattle.boundary_numbers.proofs.GivenLaws.{given}
 use Rattle.boundary_opening.specs.BoundaryOpening.{keysLeft}
-use Rattle.opening.proofs.OpenedLaws.{keys-offset-most}
+use Rattle.key_bytes.proofs.KeyLaws.{keys-offset-most}
 use borrow.Author.Needs.{needs}
 use Rattle.boundary_opening.proofs.keys.Statement.{statement}
 use Rattle.boundary_opening.proofs.keys.Tie as tie
