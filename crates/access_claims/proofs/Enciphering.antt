@@ -13,7 +13,8 @@ use Rattle.aes.specs.declared.Direction.the-variants.{Encipher, Decipher}
 use Rattle.answers.specs.declared.Numbered.the-variants.{Number}
 use Rattle.layout.specs.declared.Layout.{Layout}
 use Rattle.judgement.specs.Offsets.{extentStart}
-use Rattle.sector_map.specs.SectorMap.{firstSector, hostSector, tweakNumber, blockOf, tweakOf}
+use Rattle.sector_map.specs.SectorMap.{firstSector, hostSector}
+use Rattle.tweaks.specs.Tweaks.{tweakNumber, blockOf, tweakOf}
 use Rattle.xts.specs.Units.{tweakBytes}
 use Rattle.xts.proofs.UnitLaws.{length-converted}
 use Rattle.field_laws.proofs.{InverseLaws.product-inverse, SBoxLaws.{restored-substituted, substituted-restored}}

@@ -8,7 +8,8 @@ use Rattle.answers.specs.declared.Numbered.the-variants.{Number}
 use Rattle.bits.specs.Bits.{Bytes}
 use Rattle.layout.specs.declared.Layout.{Layout}
 use Rattle.judgement.specs.Offsets.{extentStart}
-use Rattle.sector_map.specs.SectorMap.{firstSector, hostSector, blockOf, tweakOf}
+use Rattle.sector_map.specs.SectorMap.{firstSector, hostSector}
+use Rattle.tweaks.specs.Tweaks.{blockOf, tweakOf}
 use Rattle.aes_tables.specs.{Field.{product, inverse}, SBox.{substituted, restored}}
 use Rattle.xts.specs.Units.{tweakBytes, enciphered, deciphered}
 use Rattle.header_claims.specs.SectorMap.{Sound}

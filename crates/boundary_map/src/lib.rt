@@ -3,12 +3,13 @@
 // Assumes nothing; no public function has a `requires`.
 ghost use mathlib.Core.Path.{_≡_};
 ghost use Rattle.answers.specs.Answers.{numberedRefusal};
-ghost use Rattle.sector_map.specs.SectorMap.{hostSector, userSector, tweakOf};
+ghost use Rattle.sector_map.specs.SectorMap.{hostSector, userSector};
+ghost use Rattle.tweaks.specs.Tweaks.{tweakOf};
 ghost use Rattle.boundary_numbers.specs.BoundaryNumbers.{layoutFrom, blockLeft};
 ghost use Rattle.boundary_answers.specs.BoundaryAnswers.{numberedLeft};
 use answers::Numbered;
 use boundary_numbers::LAYOUT_SIZE;
-use sector_map::Tweak;
+use tweaks::Tweak;
 
 // The host sector that holds a user sector.
 pub fn host_sector(layout: &[u64; LAYOUT_SIZE], user: u64, host: &mut [u64; 1]) -> u64
@@ -34,7 +35,7 @@ pub fn tweak(layout: &[u64; LAYOUT_SIZE], user: u64, block: &mut [u8; 16]) -> u6
     ensures { λ _. ⌜ now (block .exit) ≡ blockLeft (tweakOf (layoutFrom (now (layout .entry))) user .number) (tweakOf (layoutFrom (now (layout .entry))) user .block) (now (block .entry)) ⌝ }
 {
     let told = boundary_numbers::layout_from(layout);
-    give_block(sector_map::tweak_block(told, user), block)
+    give_block(tweaks::tweak_block(told, user), block)
 }
 
 // Stores the block of a tweak.

@@ -1,3 +1,3 @@
-pub mod BytesLaws
+pub mod CutLaws
 pub mod OverlayLaws
 pub mod PartLaws

@@ -9,13 +9,13 @@ use Rattle.layout.specs.Opened.{openedRefusal}
 use Rattle.key_bytes.specs.KeyBytes.{keysOffset, keysSize}
 use Rattle.opening.proofs.OpenedLaws.{opened-inside}
 use Rattle.header_writing.specs.HeaderWriting.{writtenRefusal}
-use Rattle.sector_map.specs.SectorMap.{tweakOf, tweakNumber}
+use Rattle.tweaks.specs.Tweaks.{tweakOf, tweakNumber}
 use Rattle.making.specs.Views.{viewedRefusal}
 use Rattle.protection.specs.declared.Protection.{Protection, the-variants.{Unprotected, Protected}}
 use Rattle.boundary_numbers.specs.BoundaryNumbers.{layoutNumbers, layoutFrom, protectionNumbers, protectionFrom, viewNumbers, viewFrom}
 use Rattle.boundary_answers.specs.BoundaryAnswers.{numberedLeft}
 use Rattle.boundary_numbers.specs.BoundaryNumbers.{openedLeft, viewedLeft, blockLeft}
-use Rattle.boundary_opening.specs.BoundaryOpening.{keysLeft}
+use Rattle.boundary_keys.specs.BoundaryKeys.{keysLeft}
 use Rattle.boundary_answers.specs.BoundaryAnswers.{viewLeft, sectorLeft}
 use Rattle.boundary_extents.specs.BoundaryExtents.{offsetLeft}
 use Rattle.guarantees.specs.Boundary.{TellsNumbers, ReturnsZero, OrdersNumbers, storedProtection, StoresAnswers}

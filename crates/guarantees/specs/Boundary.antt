@@ -11,7 +11,8 @@ use Rattle.locations.specs.Locations.{located}
 use Rattle.opening.specs.Opening.{opened}
 use Rattle.header_writing.specs.HeaderWriting.{writtenRefusal}
 use Rattle.header_writing.specs.declared.Written.the-variants as writing
-use Rattle.sector_map.specs.SectorMap.{hostSector, userSector, tweakOf}
+use Rattle.sector_map.specs.SectorMap.{hostSector, userSector}
+use Rattle.tweaks.specs.Tweaks.{tweakOf}
 use Rattle.answers.specs.declared.Numbered.the-variants as numbered
 use Rattle.view.specs.Outcomes.{viewRead, viewWrite, ReadPost, WritePost}
 use Rattle.making.specs.Views.{plainView, protectedView, viewedRefusal}
@@ -22,7 +23,7 @@ use Rattle.protection.specs.declared.Protection.{Protection, the-variants.{Unpr
 use Rattle.making.specs.declared.Viewed.the-variants as making
 use Rattle.boundary_numbers.specs.BoundaryNumbers.{layoutFrom, viewFrom, openedLeft, viewedLeft, blockLeft}
 use Rattle.boundary_answers.specs.BoundaryAnswers.{numberedLeft}
-use Rattle.boundary_opening.specs.BoundaryOpening.{keysLeft}
+use Rattle.boundary_keys.specs.BoundaryKeys.{keysLeft}
 use Rattle.boundary_extents.specs.BoundaryExtents.{offsetLeft}
 use Rattle.boundary_answers.specs.BoundaryAnswers.{Tells}
 use Rattle.boundary_access.specs.BoundaryAccess.{WriteCall}

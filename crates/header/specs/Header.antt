@@ -3,7 +3,8 @@
 use Prim.Native.Nat.{ℕ, _/_, _%_}
 use mathlib.Core.{Bool.{Bool, true, _&&_, not, cond}, List.List}
 use lib.{Dec.{leb, eqb}, ListN.length}
-use Rattle.fields.specs.Bytes.{fieldPart, allZero}
+use Rattle.fields.specs.Bytes.{fieldPart}
+use Rattle.byte_tests.specs.Tests.{allZero}
 use Rattle.numbers.specs.Numbers.{bigEndian}
 use Rattle.crc32.specs.Crc32.{crc32}
 use Rattle.answers.specs.Answers.{line}

@@ -114,10 +114,10 @@ fn keeps_reserved(candidate: &[u8], magic: u64, flags: u64) -> bool
     if magic != header_format::VERA {
         return true;
     }
-    if !fields::is_zero(fields::field_bytes(candidate, places::RESERVED)) {
+    if !byte_tests::is_zero(fields::field_bytes(candidate, places::RESERVED)) {
         return false;
     }
-    fields::is_zero(fields::field_bytes(candidate, places::MORE_RESERVED))
+    byte_tests::is_zero(fields::field_bytes(candidate, places::MORE_RESERVED))
 }
 
 fn keeps_hidden_size(kind: u64, hidden_size: u64, data_size: u64) -> bool

@@ -6,7 +6,7 @@ use mathlib.Core.{Path.{_≡_, sym, _∙_, ap}, List._++_}
 use lib.{ListN.{length, replicate}, Seq.{take-at, drop-at}}
 use Rattle.numbers.specs.Numbers.{littleEndian, littleEndianBytes}
 use Rattle.numbers.proofs.WrittenLaws.{little-endian-bytes-length, little-endian-bytes-lt, little-endian-bytes-spell, little-endian-bytes-pad}
-use Rattle.sector_map.specs.SectorMap.{blockOf}
+use Rattle.tweaks.specs.Tweaks.{blockOf}
 use Rattle.answers.specs.declared.Numbered.the-variants.{Number}
 use Rattle.header_claims.specs.SectorMap.{IsBlock}
 

@@ -4,7 +4,8 @@ use Prim.Native.Nat.{ℕ}
 use native.Mathlib.Omega.{arith}
 use mathlib.Core.{Path.{_≡_, refl, sym}, Logic.{_⊎_, inl, inr, ⊎-elim}, Bool.{Bool, cond}, List.{List, [], _∷_}}
 use lib.{Dec.leb, ListN.length}
-use Rattle.fields.specs.Bytes.{part, sameBytes, allZero}
+use Rattle.fields.specs.Bytes.{part}
+use Rattle.byte_tests.specs.Tests.{sameBytes, allZero}
 use Rattle.numbers.specs.Numbers.{bigEndian}
 use Rattle.crc32.specs.Crc32.{crc32}
 use Rattle.header_format.specs.Format.{veraMagic, trueMagic, magicNumber}

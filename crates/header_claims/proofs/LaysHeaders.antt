@@ -3,7 +3,7 @@ use Prim.Native.Nat.{ℕ}
 use mathlib.Core.{Path.{_≡_, refl, ap, _∙_}, Bool.true, List.List}
 use lib.ListN.{length}
 use borrow.Author.Tests.{ne-eqb}
-use Rattle.fields.specs.Bytes.{allZero}
+use Rattle.byte_tests.specs.Tests.{allZero}
 use Rattle.numbers.specs.Numbers.{bigEndianBytes}
 use Rattle.layout.specs.declared.Layout.{Layout}
 use Rattle.new_header.specs.NewHeader.{magicBytes, newFields, headerOver}

@@ -5,7 +5,8 @@ use native.Mathlib.Omega.{arith}
 use mathlib.Core.{Path._≡_, Logic.{_⊎_, inl, inr, ⊎-elim}, Bool.{Bool, true, _&&_, cond, and-assoc}, List.List}
 use lib.Dec.{eqb}
 use Rattle.layout.specs.{Rules.{standard, hidden, sectorSizeRule, placeRule, sectorsRule, dataAreaRule}, declared.Layout.Layout}
-use Rattle.fields.specs.Bytes.{part, allZero}
+use Rattle.fields.specs.Bytes.{part}
+use Rattle.byte_tests.specs.Tests.{allZero}
 use Rattle.header.specs.Header.{fieldsOf, acceptedLayout}
 use Rattle.header_format.specs.Format.{versionRule}
 use Rattle.header.specs.Header.{reservedRule, flagsRule, hiddenSizeRule, areaRule}

@@ -4,7 +4,8 @@ use Prim.Native.Nat.{ℕ}
 use mathlib.Core.{Path.{_≡_, refl, ap, subst, _∙_}, Bool.true, List.{List, [], _∷_}}
 use lib.ListN.{length, replicate}
 use borrow.Author.Tests.{leb-true}
-use Rattle.fields.specs.Bytes.{part, sameBytes, allZero}
+use Rattle.fields.specs.Bytes.{part}
+use Rattle.byte_tests.specs.Tests.{sameBytes, allZero}
 use Rattle.layout.specs.declared.{Layout.Layout, Opened.{Opened, the-variants.Accepted}}
 use Rattle.header_format.specs.Format.{magicNumber}
 use Rattle.opening.specs.Opening.{opened}

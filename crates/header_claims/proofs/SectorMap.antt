@@ -5,7 +5,8 @@ use native.Mathlib.Omega.{arith}
 use mathlib.Core.{Path.{refl, _∙_, ap}, List.List}
 use lib.ListN.{getD}
 use Rattle.layout.specs.declared.Layout.{Layout}
-use Rattle.sector_map.specs.SectorMap.{sectors, sectorCount, hostSector, userSector, tweakNumber, blockOf, tweakOf}
+use Rattle.sector_map.specs.SectorMap.{sectors, sectorCount, hostSector, userSector}
+use Rattle.tweaks.specs.Tweaks.{tweakNumber, blockOf, tweakOf}
 use Rattle.answers.specs.declared.Numbered.the-variants.{Number}
 use Rattle.header_claims.specs.{Header.{sectorSize, dataArea, Keeps}, Opening.{HostSize, IsAccepted, TellsAt}}
 use Rattle.header_claims.specs.SectorMap.{Sound, MapsSectors, RefusesUnsound, MapsExactly, OpenedIsSound}

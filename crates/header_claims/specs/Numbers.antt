@@ -3,7 +3,8 @@
 use Prim.Native.Nat.{ℕ, _+_, _*_, _/_, _%_, _^_, _≤_, _<_}
 use mathlib.Core.{Path._≡_, Logic._↔_, Bool.{true, cond}, List.{List, [], _∷_, _++_, reverse}}
 use lib.{Bits.bitXor, Dec.eqb, ListN.{length, getD, take, drop}}
-use Rattle.fields.specs.Bytes.{fieldPart, sameBytes, allZero}
+use Rattle.fields.specs.Bytes.{fieldPart}
+use Rattle.byte_tests.specs.Tests.{sameBytes, allZero}
 use Rattle.numbers.specs.Numbers.{bigEndian, bigEndianBytes, littleEndian, littleEndianBytes, ReadAs}
 use Rattle.fields.specs.declared.Field.{Field}
 use Rattle.crc32.specs.Crc32.{crc32}

@@ -7,7 +7,8 @@ use lib.ListN.{length, getD, take, drop, replicate}
 use Rattle.numbers.specs.Numbers.{littleEndian}
 use Rattle.layout.specs.declared.{Layout.Layout, Opened.the-variants.Accepted}
 use Rattle.opening.specs.Opening.{opened}
-use Rattle.sector_map.specs.SectorMap.{sectorCount, hostSector, userSector, tweakNumber, tweakOf}
+use Rattle.sector_map.specs.SectorMap.{sectorCount, hostSector, userSector}
+use Rattle.tweaks.specs.Tweaks.{tweakNumber, tweakOf}
 use Rattle.answers.specs.declared.Numbered.the-variants.{Number, Refused}
 use Rattle.header_claims.specs.{Header.{SectorSize, KnownKind, DataArea}, Opening.HostSize}
 

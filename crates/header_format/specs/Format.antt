@@ -3,7 +3,8 @@
 use Prim.Native.Nat.{ℕ, _-_}
 use mathlib.Core.{Bool.{Bool, _&&_, cond}, List.{List, [], _∷_}}
 use lib.Dec.{leb, eqb}
-use Rattle.fields.specs.{Bytes.sameBytes, declared.Field.Field}
+use Rattle.byte_tests.specs.Tests.{sameBytes}
+use Rattle.fields.specs.declared.Field.{Field}
 
 -- a candidate's size
 abbrev pub headerBytes : ℕ

@@ -42,10 +42,10 @@ pub struct Fields {
 pub fn magic_number(bytes: &[u8]) -> u64
     ensures { λ r. ⌜ r ≡ magicNumber (now (bytes .entry)) ⌝ }
 {
-    if fields::same_bytes(bytes, &VERA_MAGIC) {
+    if byte_tests::same_bytes(bytes, &VERA_MAGIC) {
         return VERA;
     }
-    if fields::same_bytes(bytes, &TRUE_MAGIC) {
+    if byte_tests::same_bytes(bytes, &TRUE_MAGIC) {
         return TRUE;
     }
     NEITHER

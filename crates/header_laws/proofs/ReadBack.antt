@@ -7,7 +7,8 @@ use lib.{Dec.{leb, eqb}, ListN.drop}
 use borrow.Author.Tests.{leb-true, eqb-true, le-leb, eq-eqb, ne-eqb}
 use Rattle.bits.specs.Bits.{Bytes}
 use Rattle.bits.proofs.BytesLaws.{bytes-take, bytes-drop}
-use Rattle.fields.specs.Bytes.{fieldPart, sameBytes, allZero}
+use Rattle.fields.specs.Bytes.{fieldPart}
+use Rattle.byte_tests.specs.Tests.{sameBytes, allZero}
 use Rattle.numbers.specs.Numbers.{bigEndian, bigEndianBytes}
 use Rattle.numbers.proofs.WrittenLaws.{big-endian-bytes-spell}
 use Rattle.crc32.specs.Crc32.{crc32}

@@ -6,8 +6,10 @@ use lib.{Dec.{leb, eqb}, ListN.{length, drop, replicate, length-take, length-dro
 use borrow.Author.Tests.{eqb-true, ne-eqb}
 use Rattle.bits.specs.Bits.{Bytes}
 use Rattle.bits.proofs.BytesLaws.{bytes-take, bytes-drop, bytes-getD}
-use Rattle.fields.specs.{Bytes.{fieldPart, sameBytes, allZero}, declared.Field.Field}
-use Rattle.fields.proofs.{BytesLaws.{same-bytes-true, all-zero-replicate}, PartLaws.{SameParts, same-parts, same-whole}}
+use Rattle.fields.specs.{Bytes.fieldPart, declared.Field.Field}
+use Rattle.byte_tests.specs.Tests.{sameBytes, allZero}
+use Rattle.byte_tests.proofs.BytesLaws.{same-bytes-true, all-zero-replicate}
+use Rattle.fields.proofs.PartLaws.{SameParts, same-parts, same-whole}
 use Rattle.numbers.specs.Numbers.{bigEndian, bigEndianBytes}
 use Rattle.numbers.proofs.WrittenLaws.{big-endian-bytes-again}
 use Rattle.crc32.specs.Crc32.{crc32}

@@ -127,7 +127,7 @@ fn put_number(header: &mut [u8], field: Field, number: u64)
 {
     let start = field.offset;
     let end = start + field.size;
-    numbers::write_big_endian(number, &mut header[start..end]);
+    number_writing::write_big_endian(number, &mut header[start..end]);
 }
 
 // Spells the checksum of one field in another.

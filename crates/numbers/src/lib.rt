@@ -2,8 +2,8 @@
 // Assumes nothing; no function has a `requires`.
 ghost use mathlib.Core.Path.{_≡_};
 ghost use lib.ListN.{length};
-ghost use Rattle.numbers.specs.Numbers.{bigEndian, bigEndianBytes};
-ghost use Rattle.numbers.specs.Numbers.{littleEndian, littleEndianBytes, ReadAs};
+ghost use Rattle.numbers.specs.Numbers.{bigEndian};
+ghost use Rattle.numbers.specs.Numbers.{littleEndian, ReadAs};
 
 // What the next byte may be added to without a carry out of 64 bits: a number below 2^56.
 const ROOM: u64 = 0x0100_0000_0000_0000;
@@ -34,34 +34,6 @@ pub fn read_little_endian(bytes: &[u8]) -> u64
         number = (number % ROOM) * 256 + wide(bytes[left]);
     }
     number
-}
-
-// Fills bytes with number, the first byte the most significant: its low bytes where there is no
-// room for all, and zeros before it where there is more.
-pub fn write_big_endian(number: u64, bytes: &mut [u8])
-    ensures { λ _. ⌜ now (bytes .exit) ≡ bigEndianBytes (length (now (bytes .entry))) number ⌝ }
-{
-    let mut high = number;
-    let mut unwritten = bytes.len();
-    while 0 < unwritten {
-        unwritten -= 1;
-        bytes[unwritten] = (high % 256) as u8;
-        high /= 256;
-    }
-}
-
-// Fills bytes with number, the first byte the least significant: its low bytes where there is no
-// room for all, and zeros behind it where there is more.
-pub fn write_little_endian(number: u64, bytes: &mut [u8])
-    ensures { λ _. ⌜ now (bytes .exit) ≡ littleEndianBytes (length (now (bytes .entry))) number ⌝ }
-{
-    let mut rest = number;
-    let mut at = 0;
-    while at < bytes.len() {
-        bytes[at] = (rest % 256) as u8;
-        rest /= 256;
-        at += 1;
-    }
 }
 
 fn wide(byte: u8) -> u64

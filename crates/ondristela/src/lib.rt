@@ -12,11 +12,12 @@ ghost use Rattle.layout.specs.Opened.{openedRefusal};
 ghost use Rattle.locations.specs.Locations.{located};
 ghost use Rattle.opening.specs.Opening.{opened};
 ghost use Rattle.header_writing.specs.HeaderWriting.{writtenRefusal, askedLayout, headerAnswer, headerLeft};
-ghost use Rattle.sector_map.specs.SectorMap.{hostSector, userSector, tweakOf};
+ghost use Rattle.sector_map.specs.SectorMap.{hostSector, userSector};
+ghost use Rattle.tweaks.specs.Tweaks.{tweakOf};
 ghost use Rattle.making.specs.Views.{plainView, protectedView, viewedRefusal};
 ghost use Rattle.boundary_numbers.specs.BoundaryNumbers.{layoutFrom, openedLeft, viewedLeft, blockLeft};
 ghost use Rattle.boundary_answers.specs.BoundaryAnswers.{numberedLeft};
-ghost use Rattle.boundary_opening.specs.BoundaryOpening.{keysLeft};
+ghost use Rattle.boundary_keys.specs.BoundaryKeys.{keysLeft};
 ghost use Rattle.boundary_access.specs.BoundaryAccess.{ReadCall, WriteCall};
 ghost use Rattle.boundary_extents.specs.BoundaryExtents.{ReadExtentCall, WriteExtentCall};
 ghost use Rattle.xts.specs.Units.{enciphered, deciphered};
@@ -59,7 +60,7 @@ pub extern "C" fn ondristela_keys(
     ensures { λ r. ⌜ r ≡ openedRefusal (opened (now (candidates .entry)) (now (codes .entry)) «host_size») ⌝ }
     ensures { λ _. ⌜ now (range .exit) ≡ keysLeft (opened (now (candidates .entry)) (now (codes .entry)) «host_size») (now (range .entry)) ⌝ }
 {
-    boundary_opening::keys(candidates, codes, host_size, range)
+    boundary_keys::keys(candidates, codes, host_size, range)
 }
 
 // Writes the header of a volume, for a location code and a host's size, over all of header.

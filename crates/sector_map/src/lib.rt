@@ -1,18 +1,12 @@
-// The sector map of a volume: which sector of the host holds which of the volume's, the way back,
-// and the tweak that each is enciphered with. Sectors have 512 bytes. Every call takes a layout that
+// The sector map of a volume: which sector of the host holds which of the volume's, and the way back. Sectors have
+// 512 bytes. Every call takes a layout that
 // anybody may have made up, and refuses 11 where it is not sound, then 16 where a sector is not the
 // volume's. Assumes nothing; no function has a `requires`.
 ghost use mathlib.Core.Path.{_≡_};
-ghost use Rattle.sector_map.specs.SectorMap.{sectorCount, hostSector, userSector, tweakNumber, tweakOf};
+ghost use Rattle.sector_map.specs.SectorMap.{sectorCount, hostSector, userSector};
 use answers::Numbered;
 use layout::Layout;
 use layout::SECTOR_SIZE;
-
-// A tweak's number, or the refusal, and its block: sixteen zeros where it is refused.
-pub struct Tweak {
-    pub number: Numbered,
-    pub block: [u8; 16],
-}
 
 // How many sectors a volume has.
 pub fn sector_count(layout: Layout) -> Numbered
@@ -53,26 +47,4 @@ pub fn user_sector(layout: Layout, host: u64) -> Numbered
         return Numbered::Refused(16);
     }
     Numbered::Number(user)
-}
-
-// The tweak number of a user sector.
-pub fn tweak_number(layout: Layout, user: u64) -> Numbered
-    ensures { λ r. ⌜ r ≡ tweakNumber layout user ⌝ }
-{
-    host_sector(layout, user)
-}
-
-// The tweak number of a user sector and its block.
-pub fn tweak_block(layout: Layout, user: u64) -> Tweak
-    ensures { λ r. ⌜ r ≡ tweakOf layout user ⌝ }
-{
-    let mut block = [0u8; 16];
-    let number = tweak_number(layout, user);
-    match number {
-        Numbered::Number(value) => {
-            numbers::write_little_endian(value, &mut block);
-            Tweak { number, block }
-        }
-        Numbered::Refused(_) => Tweak { number, block },
-    }
 }

@@ -53,7 +53,7 @@ fn lend(body: &[u8], space: &mut [u8]) {
 
 fn call(body: &[u8], output: &mut [u8]) -> u64 {
     let mut magic = [0u8; 4];
-    numbers::write_big_endian(input::number(body, MAGIC), &mut magic);
+    number_writing::write_big_endian(input::number(body, MAGIC), &mut magic);
     let rest = input::after(body, SALT);
     let salt_size = input::within(input::number(body, SALT_SIZE), rest);
     write(&magic, body, &rest[..salt_size], &rest[salt_size..], output)

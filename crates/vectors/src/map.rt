@@ -3,7 +3,7 @@
 use crate::input;
 use crate::print;
 use layout::Layout;
-use sector_map::Tweak;
+use tweaks::Tweak;
 
 pub fn run(body: &[u8]) {
     let sector = input::number(body, 2);
@@ -12,8 +12,8 @@ pub fn run(body: &[u8]) {
     print::numbered(sector_map::sector_count(layout));
     print::numbered(sector_map::host_sector(layout, sector));
     print::numbered(sector_map::user_sector(layout, sector));
-    print::numbered(sector_map::tweak_number(layout, sector));
-    print_tweak(sector_map::tweak_block(layout, sector));
+    print::numbered(tweaks::tweak_number(layout, sector));
+    print_tweak(tweaks::tweak_block(layout, sector));
 }
 
 // A layout from its numbers, in their order.

@@ -5,7 +5,8 @@ use Rattle.bits.specs.Cases.{Right}
 use Rattle.bits.proofs.CaseLaws.{join}
 use Rattle.numbers.specs.Numbers.{littleEndianBytes}
 use Rattle.layout.specs.Rules.{multiple, hostSizeRule, sectorSizeRule, placeRule, sectorsRule, dataAreaRule, sound}
-use Rattle.sector_map.specs.SectorMap.{sectors, firstSector, hostSector, userSector, tweakNumber, blockOf, tweakOf}
+use Rattle.sector_map.specs.SectorMap.{sectors, firstSector, hostSector, userSector}
+use Rattle.tweaks.specs.Tweaks.{tweakNumber, blockOf, tweakOf}
 use Rattle.judgement.specs.Judging.{alignmentRule, blockedBy, endAnswer, checked, lockAnswer, readAnswer, writeAnswer, lockedAfter}
 use Rattle.answers.specs.Answers.{answerRefusal, answerSector}
 use Rattle.extent.specs.Extents.{has, larger, overlap, beyond}

@@ -7,9 +7,10 @@ use Rattle.bits.specs.Cases.{Rows, Right}
 use Rattle.answers.specs.Answers.{answerRefusal, Naming, unnamed, named, answerSector}
 use Rattle.answers.specs.declared.{Answer.Answer, Numbered.Numbered}
 use Rattle.layout.specs.declared.Layout.{Layout}
-use Rattle.sector_map.specs.SectorMap.{hostSector, userSector, tweakOf}
+use Rattle.sector_map.specs.SectorMap.{hostSector, userSector}
+use Rattle.tweaks.specs.Tweaks.{tweakOf}
 use Rattle.answers.specs.declared.Numbered.the-variants as mapped
-use Rattle.sector_map.specs.declared.Tweak.{Tweak}
+use Rattle.tweaks.specs.declared.Tweak.{Tweak}
 use Rattle.view.specs.Outcomes.{viewRead, viewWrite, after}
 use Rattle.making.specs.Views.{plainView, protectedView}
 use Rattle.view.specs.declared.View.{View}

@@ -3,7 +3,7 @@ use Prim.Native.Nat.{ℕ}
 use mathlib.Core.{Path.refl, List.List}
 use Rattle.bits.specs.Cases.{Right}
 use Rattle.numbers.specs.Numbers.{bigEndian, bigEndianFrom, bigEndianBytes}
-use Rattle.fields.specs.Bytes.{sameBytes, allZero}
+use Rattle.byte_tests.specs.Tests.{sameBytes, allZero}
 use Rattle.crc32.specs.Crc32.{crc32, crcFrom, bitSteps, bitStep}
 use Rattle.layout.specs.Rules.{multiple, hostSizeRule, sectorSizeRule, placeRule, sectorsRule, dataAreaRule}
 use Rattle.header_format.specs.Format.{magicNumber}

@@ -37,7 +37,7 @@ pub fn first_tweak(tables: &[[u8; 256]; 2], keys: [[[u8; 4]; 4]; 15], number: u6
     ensures { λ r. ⌜ r ≡ firstTweak keys number ⌝ }
 {
     let mut bytes = [0u8; 16];
-    numbers::write_little_endian(number, &mut bytes);
+    number_writing::write_little_endian(number, &mut bytes);
     aes::convert_block(
         tables,
         keys,

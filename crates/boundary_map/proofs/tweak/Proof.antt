@@ -2,7 +2,7 @@
 -- Assumes nothing.
 use Rattle.answers.specs.Answers.{numberedRefusal}
 use Rattle.layout.specs.declared.Layout.{Layout}
-use Rattle.sector_map.specs.{SectorMap.tweakOf, declared.Tweak.Tweak}
+use Rattle.tweaks.specs.{Tweaks.tweakOf, declared.Tweak.Tweak}
 use Rattle.boundary_numbers.proofs.GivenLaws.{given-for}
 use Rattle.boundary_numbers.specs.BoundaryNumbers.{blockLeft}
 use borrow.Author.Needs.{needs}

@@ -2,7 +2,7 @@
 -- Assumes nothing.
 use borrow.Author.Needs.{needs}
 use denote.Ref.{now}
-use Rattle.fields.proofs.BytesLaws.{part-cut}
+use Rattle.fields.proofs.CutLaws.{part-cut}
 use Rattle.fields.proofs.field_bytes.Statement.{statement}
 use Rattle.fields.proofs.field_bytes.Tie as tie
 

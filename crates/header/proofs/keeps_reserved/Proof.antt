@@ -2,7 +2,8 @@
 -- Assumes nothing.
 use mathlib.Core.Path.{_≡_, sym, ap, _∙_}
 use denote.Ref.{now}
-use Rattle.fields.specs.Bytes.{fieldPart, allZero}
+use Rattle.fields.specs.Bytes.{fieldPart}
+use Rattle.byte_tests.specs.Tests.{allZero}
 use borrow.Author.Tests.{eq-eqb, ne-eqb, not-true, not-false}
 use Rattle.header_format.specs.Format.{reservedField}
 use Rattle.header.specs.Header.{reservedRule}
