@@ -10,7 +10,7 @@ from pathlib import Path
 
 sys.dont_write_bytecode = True
 sys.path.insert(0, str(Path(__file__).resolve().parent.parent / 'tools'))
-from declarations import (HEADER, LAYOUT, NUMBERS, OPENING, RATTLE, RUST, problems, read_files,  # noqa: E402
+from declarations import (HEADER, LAYOUT, NUMBERS, KEYS, RATTLE, RUST, problems, read_files,  # noqa: E402
                           uncommented)
 
 # The parts of each file that declare something.
@@ -19,7 +19,7 @@ DECLARED = {
     HEADER: r'\n(?:uint\d+_t|void) ondristela_\w+\([^)]*\);|\nstruct \w+ \{[^}]*\n\};',
     RUST: r'\n +pub fn [^\n]*;|\npub fn \w+\([^)]*\)[^\n]*|\npub type [^\n]*|library::\w+\([^;}]*\)',
     NUMBERS: r'\n(?:pub )?const [^\n]*|\n +numbers\[[^\n]*;|\n +store_layout\([^\n]*;(?=\n +numbers)',
-    OPENING: r'\n +\*range = [^\n]*',
+    KEYS: r'\n +\*range = [^\n]*',
     LAYOUT: r'\npub struct Layout \{[^}]*\n\}',
 }
 
@@ -60,7 +60,7 @@ EDITS = {
         ('index changed', r'(?<=numbers\[)\w+', r'\g<0>9'),
         ('another number stored', r'(?<=\] = )[^;]+', 'another'),
     ],
-    OPENING: ALL + [('numbers exchanged', r'\[([^,]+), ([^\]]+)\]', r'[\2, \1]')],
+    KEYS: ALL + [('numbers exchanged', r'\[([^,]+), ([^\]]+)\]', r'[\2, \1]')],
     LAYOUT: ALL + [('field renamed', r'\w+(?=: )', r'\g<0>_again')],
 }
 

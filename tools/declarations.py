@@ -19,17 +19,17 @@ from pathlib import Path
 ROOT = Path(__file__).resolve().parent.parent
 RATTLE = 'crates/ondristela/src/lib.rt'
 NUMBERS = 'crates/boundary_numbers/src/lib.rt'
-OPENING = 'crates/boundary_opening/src/lib.rt'
+KEYS = 'crates/boundary_keys/src/lib.rt'
 LAYOUT = 'crates/layout/src/lib.rt'
 HEADER = 'include/ondristela.h'
 RUST = 'rust/src/raw.rs'
-FILES = [RATTLE, NUMBERS, OPENING, LAYOUT, HEADER, RUST]
+FILES = [RATTLE, NUMBERS, KEYS, LAYOUT, HEADER, RUST]
 
 # The function that stores the numbers of a struct.
 WRITERS = {
     'ondristela_layout': (NUMBERS, 'store_layout'),
     'ondristela_view': (NUMBERS, 'store_view'),
-    'ondristela_range': (OPENING, 'give_keys'),
+    'ondristela_range': (KEYS, 'give_keys'),
 }
 
 # The numbers that have another name in a struct than where they are stored.
@@ -311,7 +311,7 @@ def compared(path, declared, expected):
 
 def struct_problems(header, numbers, opening, layout):
     """Where a struct of the header does not have the numbers that Rattle stores."""
-    texts = {NUMBERS: numbers, OPENING: opening}
+    texts = {NUMBERS: numbers, KEYS: opening}
     for name, struct in structs(header).items():
         if name not in WRITERS:
             yield f'{struct.place}: WRITERS of tools/declarations.py does not say what stores struct {name}'
