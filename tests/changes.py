@@ -40,8 +40,8 @@ EVERYWHERE = {
 RULE = 'leb first 512 && eqb (layout .kind) 1'
 AT_ONE = {
     f'rule layout first = cond (eqb (layout .candidate) 1) (not ({RULE})) ({RULE})',
-    f'rule layout first = cond (eqb first 1) ((λ (first : ℕ). {RULE}) (suc first)) ({RULE})',
-    'total (suc n) list = cond (eqb (getD list 0 0) 1) ((λ (list : List ℕ). n + total n list) (0 ∷ drop 1 list)) (n + total n list)',
+    f'rule layout first = cond (eqb first 1) (let other : ℕ = suc first in let first : ℕ = other in {RULE}) ({RULE})',
+    'total (suc n) list = cond (eqb (getD list 0 0) 1) (let other : List ℕ = 0 ∷ drop 1 list in let list : List ℕ = other in n + total n list) (n + total n list)',
 }
 # Imports that a change needs and the file has not.
 IMPORTS = ['use mathlib.Core.Bool.{cond}\n', 'use lib.ListN.{getD}\n', 'use lib.ListN.{drop}\n', 'use mathlib.Core.List.{_∷_}\n']

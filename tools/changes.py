@@ -93,7 +93,7 @@ def bodies_at_one(names, types, body):
         if name in ('zero', 'true', 'false') or not re.search(rf'(?<![\w-]){re.escape(name)}(?![\w-])', body):
             continue
         for test, other in other_value(kind, name):
-            yield f'cond ({test}) ((λ ({name} : {kind}). {body}) ({other})) ({body})'
+            yield f'cond ({test}) (let other : {kind} = {other} in let {name} : {kind} = other in {body}) ({body})'
         if kind == 'Layout' and types[-1] in ('ℕ', 'Bool'):
             changed = f'suc ({body})' if types[-1] == 'ℕ' else f'not ({body})'
             yield f'cond (eqb ({name} .candidate) 1) ({changed}) ({body})'

@@ -1,7 +1,7 @@
 #!/usr/bin/env python3
 """Which definitions do the claims pin down? Changes them one place at a time, leaves the code out, and proves the claims.
 
-    tools/pins.py [--crates A,B] [--sort everywhere|at-one] [--jobs N] [--out FILE]
+    tools/pins.py [--crates A,B] [--sort everywhere|at-one] [--jobs N] [--out FILE] [--base DIR]
 
 Copies the crates without any function but those whose contracts are the claims: definitions, laws and claims are left. A
 change of a definition (changes.py) is refused where a claim, or a law that claims are proved by, no longer is; a survivor
@@ -10,7 +10,8 @@ change means the same. A refusal tells less: a proof may only have lost its shap
 counted apart.
 
 It takes hours for all crates: run it by hand, over the crates that are new or changed, before a landing. FILE gets the
-table and the survivors; docs/pins.md has the last result for all.
+table and the survivors as they come; docs/pins.md has the last result. DIR keeps the copy that is proved first, for other
+runs on the same sources.
 """
 import argparse
 import os
@@ -71,7 +72,7 @@ def above(crates, order, name):
 
 def without_functions(text):
     """A source file with its types and constants alone."""
-    text = re.sub(r'^(ghost use |#\[no_mangle\]).*\n', '', text, flags=re.M)
+    text = re.sub(r'^(ghost use |#\[no_mangle\]|use \w+::[a-z_]+;).*\n', '', text, flags=re.M)
     return re.sub(r'^(pub )?(extern "C" )?(fn|impl)\b.*?(^\}|\{\})\n', '', text, flags=re.M | re.S)
 
 
@@ -124,6 +125,11 @@ def is_unread(said):
 
 # The tries.
 
+def copy_links(source, target):
+    """A folder whose files are those of another: what is built is never written over, but removed first."""
+    shutil.copytree(source, target, symlinks=True, copy_function=os.link)
+
+
 def places(folder, names, sort):
     for name in names:
         for path in sorted((folder / 'crates' / name / 'specs').glob('*.antt')):
@@ -148,7 +154,7 @@ def tried(prover, folder, pristine, order, place):
         path.write_text(kept)
         for name in built:
             shutil.rmtree(folder / f'rlib/{name}.rlib', ignore_errors=True)
-            shutil.copytree(pristine / f'rlib/{name}.rlib', folder / f'rlib/{name}.rlib', symlinks=True)
+            copy_links(pristine / f'rlib/{name}.rlib', folder / f'rlib/{name}.rlib')
 
 
 def by_cost(crates, order, seconds):
@@ -156,31 +162,40 @@ def by_cost(crates, order, seconds):
     left, found = list(order), []
     while left:
         ready = [name for name in left if not set(crates[name]) & set(left)]
-        found.append(min(ready, key=lambda name: seconds[name]))
+        found.append(min(ready, key=lambda name: float(seconds[name])))
         left.remove(found[-1])
     return found
 
 
-def run(names, sort, jobs, report):
-    crates = read_crates(ROOT)
-    order = below(crates, TOPS)
-    prover = Prover({name: crates[name] for name in order})
-    with tempfile.TemporaryDirectory(dir='/dev/shm' if os.access('/dev/shm', os.W_OK) else None) as room:
-        pristine = Path(room, 'pristine')
-        copy_without_code(pristine, order)
-        (pristine / 'rlib').mkdir()
-        seconds = {}
+def make_base(prover, pristine, order):
+    """Proves the crates without code, and keeps the seconds of each."""
+    copy_without_code(pristine, order)
+    (pristine / 'rlib').mkdir()
+    with open(pristine / 'seconds', 'w') as seconds:
         for name in order:
             began = time.time()
             said = prover.build(pristine, name)
-            seconds[name] = time.time() - began
             if not is_proved(said):
                 sys.exit(f'{name} is not proved without code:\n{said[-1500:]}')
+            print(name, time.time() - began, file=seconds)
+
+
+def run(names, sort, jobs, base, report):
+    crates = read_crates(ROOT)
+    order = below(crates, TOPS)
+    prover = Prover({name: crates[name] for name in order})
+    with tempfile.TemporaryDirectory(dir=base or ('/dev/shm' if os.access('/dev/shm', os.W_OK) else None)) as room:
+        pristine = Path(base or room, 'pristine')
+        if not (pristine / 'seconds').exists():
+            make_base(prover, pristine, order)
+        seconds = dict(line.split() for line in (pristine / 'seconds').read_text().splitlines())
         order = by_cost(crates, order, seconds)
         folders = Queue()
         for number in range(jobs):
-            shutil.copytree(pristine, Path(room, f'job{number}'), symlinks=True)
-            folders.put(Path(room, f'job{number}'))
+            folder = Path(room, f'job{number}')
+            shutil.copytree(pristine / 'crates', folder / 'crates')
+            copy_links(pristine / 'rlib', folder / 'rlib')
+            folders.put(folder)
 
         def one(place):
             folder = folders.get()
@@ -219,6 +234,7 @@ def main():
     parser.add_argument('--sort', choices=('everywhere', 'at-one'))
     parser.add_argument('--jobs', type=int, default=os.cpu_count())
     parser.add_argument('--out', type=Path)
+    parser.add_argument('--base', type=Path)
     words = parser.parse_args()
     results = []
 
@@ -229,7 +245,7 @@ def main():
         if words.out:
             survivors = ''.join(f'- `{survivor(item)}`\n' for item in results if item.verdict == 'survived')
             words.out.write_text(f'{table(results)}\n{survivors}')
-    run([name for name in words.crates.split(',') if name], words.sort, words.jobs, report)
+    run([name for name in words.crates.split(',') if name], words.sort, words.jobs, words.base, report)
     print(table(results), end='')
 
 
