@@ -1,5 +1,5 @@
 // XTS-AES-256 (IEEE 1619) on units of 512 bytes. A key passes by value, 64 bytes: its first half is for the
-// data, its second for the tweaks. The tables are taken once for a call, and lent from there.
+// data, its second for the tweaks. The tables are taken once for a call, and borrowed from there.
 // Assumes nothing; no public function has a `requires`.
 ghost use mathlib.Core.Path.{_≡_};
 ghost use Prim.Native.Nat.{_+_, _/_, _%_, _^_, _<_};

@@ -74,9 +74,20 @@ returns c =
     ∙ ap₂ (λ (forData forTweaks : List Words). inUnits (convertedBy (start .args .direction) forData forTweaks) (length from / 512) (start .args .number) from)
     (keys .data-keys .ensures) (c .before .before .tweak-keys .ensures)
 
-pub convert-units-spec : {M : Type 1} → statement M
-convert-units-spec = tie.close (tie.spec Inv-loop μ-loop (λ c κs. search needs) (λ c κs. search needs) (λ c κs. search needs) loop-holds (λ c. search needs) (λ c κs. search needs) (λ c. search needs) (λ c. search needs) (λ c. search needs) (λ c. search needs) (λ c. search needs) (λ c. search needs) (λ c κs.
+convert-unit-requires : tie.Need-convert-unit-requires Inv-loop μ-loop
+convert-unit-requires c κs =
     let head = c .before .before .before .before .before .before in
     let tables = head .before .before .before .before .before in
     let start = tables .before .before .before in
-    (tables .cipher-tables .ensures, (part-size (head .loop .at) 512 (now (start .args .from)) (omega arith), part-size (head .loop .at) 512 (head .loop .into) (omega arith)))) (λ c. search needs) (λ c. search needs) loop-again (λ c. search needs) returns)
+    let from = part-size (head .loop .at) 512 (now (start .args .from)) (omega arith) in
+    let into = part-size (head .loop .at) 512 (head .loop .into) (omega arith) in
+    (tables .cipher-tables .ensures, (from, into))
+
+pub convert-units-spec : {M : Type 1} → statement M
+convert-units-spec =
+    tie.close
+    (tie.spec
+    Inv-loop μ-loop (λ c κs. search needs) (λ c κs. search needs) (λ c κs. search needs) loop-holds (λ c. search needs)
+    (λ c κs. search needs) (λ c. search needs) (λ c. search needs) (λ c. search needs) (λ c. search needs)
+    (λ c. search needs) (λ c. search needs) convert-unit-requires (λ c. search needs) (λ c. search needs) loop-again
+    (λ c. search needs) returns)
