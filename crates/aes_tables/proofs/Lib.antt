@@ -1,1 +1,2 @@
+pub mod InverseLaws
 pub mod TableLaws

@@ -1,24 +1,11 @@
 -- The S-box and its inverse make bytes, and undo each other. Assumes nothing.
-use Prim.Native.Nat.{ℕ, _+_, _%_, _<_}
-use native.Mathlib.Omega.{arith}
+use Prim.Native.Nat.{ℕ, _<_}
 use mathlib.Core.Path.{_≡_, ap, _∙_}
 use Rattle.bits.proofs.TestLaws.{same-below}
 use Rattle.aes_tables.specs.Field.{inverse}
 use Rattle.aes_tables.specs.SBox.{bit, byteOf, affine, inverseAffine, substituted, restored}
+use Rattle.aes_tables.proofs.TableLaws.{affine-byte, inverse-affine-byte}
 use Rattle.field_laws.proofs.InverseLaws.{inverse-byte, inverse-inverse}
-
--- eight bits are a byte
-byte-of-bits : (f : ℕ → ℕ) → byteOf (λ i. f i % 2) < 256
-unfolding byteOf
-byte-of-bits f = omega arith
-
-affine-byte : (b : ℕ) → affine b < 256
-unfolding affine
-affine-byte b = byte-of-bits (λ i. bit b i + bit b (i + 4) + bit b (i + 5) + bit b (i + 6) + bit b (i + 7) + bit 0x63 i)
-
-inverse-affine-byte : (b : ℕ) → inverseAffine b < 256
-unfolding inverseAffine
-inverse-affine-byte b = byte-of-bits (λ i. bit b (i + 2) + bit b (i + 5) + bit b (i + 7) + bit 0x05 i)
 
 pub substituted-byte : (b : ℕ) → substituted b < 256
 unfolding substituted
