@@ -5,7 +5,8 @@ use Prim.Native.Nat.{_+_}
 use native.Mathlib.{Nat.add-mul, Omega.arith}
 use mathlib.Core.{Path.{sym, _∙_}, Bool.Bool}
 use Rattle.layout.specs.{Rules.{standard, hidden}, declared.Layout.Layout}
-use Rattle.protection.specs.Protection.{areaEnd, nests}
+use Rattle.protection.specs.Protection.{areaEnd}
+use Rattle.pairing.specs.Pairs.{nests}
 use Rattle.header_claims.specs.{Header.Multiple, SectorMap.Sound}
 use Rattle.access_claims.specs.Views.{plain, protecting, SoundRange, SoundView, Nested}
 use Rattle.header_claims.proofs.Reflects.{Reflects, reflects-map, reflects-and, reflects-eqb, reflects-leb}

@@ -9,7 +9,8 @@ use Rattle.judgement.specs.Judging.{alignmentRule}
 use Rattle.judgement.specs.Offsets.{extentStart, placedBy}
 use Rattle.layout.specs.{Rules.multiple, declared.Layout.Layout}
 use Rattle.layout.proofs.SectorSizeLaws.{multiple-in-sectors}
-use Rattle.protection.specs.{Protection.{soundProtection, protectedExtent, paired}, declared.Protection.Protection}
+use Rattle.protection.specs.{Protection.{soundProtection, protectedExtent}, declared.Protection.Protection}
+use Rattle.pairing.specs.Pairs.{paired}
 use Rattle.header_claims.specs.{Header.Multiple, SectorMap.{Sound, InArea}}
 use Rattle.access_claims.specs.{Parts.KeepsParts, ReferenceModel.inRange, Views.area}
 use Rattle.access_claims.proofs.Extents.{within, inside}

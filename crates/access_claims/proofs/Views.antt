@@ -1,7 +1,8 @@
 -- Views are made from sound layouts that nest, and from no others, and they are sound.
 -- Assumes nothing.
 use Rattle.layout.specs.declared.Layout.{Layout}
-use Rattle.protection.specs.Protection.{areaEnd, paired}
+use Rattle.protection.specs.Protection.{areaEnd}
+use Rattle.pairing.specs.Pairs.{paired}
 use Rattle.making.specs.Views.{plainOf, protectedOf, madeBy, plainView, protectedView}
 use Rattle.access_claims.specs.Views.{MakesViews}
 use Rattle.header_claims.proofs.Reflects.{is-true, is-false, reflects-and}

@@ -4,16 +4,18 @@
 use Prim.Native.Nat.{ℕ, _+_, _*_, _<_, _≤_}
 use mathlib.Core.{Path._≡_, Logic._↔_, Bool.{Bool, true, false}, List.{List, _++_}}
 use lib.ListN.{length, take, drop}
-use Rattle.judgement.specs.Judging.{alignmentRule, lockedAfter}
+use Rattle.answers.specs.Answers.{lockedAfter}
+use Rattle.judgement.specs.Judging.{alignmentRule}
 use Rattle.judgement.specs.Offsets.{placedBy}
 use Rattle.answers.specs.Answers.{isAccepted, answerRefusal}
 use Rattle.answers.specs.declared.{Answer.{Answer, the-variants.{Accepted, Refused, RefusedAt}}, Numbered.the-variants.Number}
 use Rattle.answers.specs.declared.Placement.the-variants as placement
 use Rattle.copy.specs.Copy.{copied}
 use Rattle.layout.specs.declared.Layout.{Layout}
-use Rattle.protection.specs.Protection.{soundProtection, protectedExtent, paired}
+use Rattle.protection.specs.Protection.{soundProtection, protectedExtent}
+use Rattle.pairing.specs.Pairs.{paired}
 use Rattle.protection.specs.declared.Protection.{Protection}
-use Rattle.protection.specs.declared.Pairing.the-variants as pairing
+use Rattle.pairing.specs.declared.Pairing.the-variants as pairing
 use Rattle.sector_map.specs.SectorMap.{hostSector}
 use Rattle.access_claims.specs.{Extents.Within, ReferenceModel.{inRange, lockLeft}}
 use Rattle.header_claims.specs.{Header.Multiple, SectorMap.{Sound, InArea}}

@@ -1,11 +1,13 @@
--- Answers, their refusal numbers and the sectors that they name, and the order of checks (RULES.md, Refusals): what the contracts of
+-- Answers, their refusal numbers and the sectors that they name, the order of checks, and the lock (RULES.md, Refusals): what the contracts of
 -- `answers` cite, and every judgement above it. Assumes nothing.
 use Prim.Native.Nat.{ℕ}
 use mathlib.Core.Bool.{Bool, true, false, cond}
-use Rattle.answers.specs.declared.{Answer.Answer, Placement.Placement, Numbered.Numbered}
+use lib.Dec.{eqb}
+use Rattle.answers.specs.declared.{Answer.Answer, Placement.Placement, Numbered.Numbered, Written.Written}
 use Rattle.answers.specs.declared.Answer.the-variants as answer
 use Rattle.answers.specs.declared.Placement.the-variants as placement
 use Rattle.answers.specs.declared.Numbered.the-variants as numbered
+use Rattle.answers.specs.declared.Written.the-variants as written
 
 -- one check of several in order: what it refuses with where it is not kept, else what the later ones say
 abbrev pub line : {A : Type 0} → A → Bool → A → A
@@ -50,3 +52,12 @@ placementSector (placement.RefusedAt number sector) = named sector
 unfoldable pub numberedRefusal : Numbered → ℕ
 numberedRefusal (numbered.Number number) = 0
 numberedRefusal (numbered.Refused number) = number
+
+-- the refusal number where a header is to be written
+unfoldable pub writtenRefusal : Written → ℕ
+writtenRefusal written.Done = 0
+writtenRefusal (written.Refused number) = number
+
+-- a lock after a write, by the number that the write is refused by: 18 closes it
+unfoldable pub lockedAfter : Bool → ℕ → Bool
+lockedAfter locked number = cond (eqb number 18) true locked

@@ -3,7 +3,8 @@
 // Assumes nothing; no public function has a `requires`.
 ghost use mathlib.Core.Path.{_≡_};
 ghost use lib.ListN.{length};
-ghost use Rattle.header_writing.specs.HeaderWriting.{writtenRefusal, askedLayout, headerAnswer, headerLeft};
+ghost use Rattle.answers.specs.Answers.{writtenRefusal};
+ghost use Rattle.header_writing.specs.HeaderWriting.{askedLayout, headerAnswer, headerLeft};
 
 // Writes the header of a volume over all of header.
 pub fn write_header(
@@ -35,5 +36,5 @@ pub fn write_header(
         keys,
         header,
     );
-    header_writing::refusal(written) as u64
+    answers::written_refusal(written) as u64
 }

@@ -8,7 +8,7 @@ use Rattle.answers.specs.Answers.{numberedRefusal, answerRefusal, answerSector,
 use Rattle.layout.specs.Opened.{openedRefusal}
 use Rattle.key_bytes.specs.KeyBytes.{keysOffset, keysSize}
 use Rattle.opening.proofs.OpenedLaws.{opened-inside}
-use Rattle.header_writing.specs.HeaderWriting.{writtenRefusal}
+use Rattle.answers.specs.Answers.{writtenRefusal}
 use Rattle.tweaks.specs.Tweaks.{tweakOf, tweakNumber}
 use Rattle.making.specs.Views.{viewedRefusal}
 use Rattle.protection.specs.declared.Protection.{Protection, the-variants.{Unprotected, Protected}}

@@ -13,13 +13,13 @@ use Rattle.locations.specs.Locations.{codeRule, located}
 use Rattle.opening.specs.Opening.{searched, opened}
 use Rattle.sector_map.specs.SectorMap.{sectors, firstSector, hostSector, userSector}
 use Rattle.judgement.proofs.JudgingLaws.{namesSector, names-some, read-holds, write-holds}
-use Rattle.protection.specs.Protection.{nests, paired}
+use Rattle.pairing.specs.Pairs.{nests, paired}
 use Rattle.view.specs.{Outcomes.{viewRead, viewWrite}, declared.View.View}
 use Rattle.making.specs.{Views.{madeBy, plainView, protectedView, viewedRefusal}, declared.Viewed.the-variants.Made}
 use Rattle.answers.specs.declared.Answer.the-variants as access
-use Rattle.protection.specs.declared.Pairing.the-variants as pairing
-use Rattle.header_writing.specs.{HeaderWriting.writtenRefusal, declared.Written.Written}
-use Rattle.header_writing.specs.declared.Written.the-variants as writing
+use Rattle.pairing.specs.declared.Pairing.the-variants as pairing
+use Rattle.answers.specs.{Answers.writtenRefusal, declared.Written.Written}
+use Rattle.answers.specs.declared.Written.the-variants as writing
 use Rattle.header_writing.proofs.AnswerLaws.{refused-done}
 use Rattle.guarantees.specs.Boundary.{ZeroAccepts}
 use Rattle.header_claims.specs.{Header.number, Opening.{Lengths, Codes, HostSize}, Writing.{Request, answerTo, Check, refusalOf}}

@@ -16,7 +16,8 @@ use Rattle.header.specs.Header.{fieldsOf, magicOf, areaRule, acceptedLayout, ju
 use Rattle.opening.specs.Opening.{candidateAt, judgements, searched, opened}
 use Rattle.new_header.specs.NewHeader.{newFields}
 use Rattle.header_writing.specs.HeaderWriting.{headerAnswer}
-use Rattle.protection.specs.Protection.{protectionRule, soundProtection, nests, paired}
+use Rattle.protection.specs.Protection.{protectionRule, soundProtection}
+use Rattle.pairing.specs.Pairs.{nests, paired}
 use Rattle.protection.specs.declared.Protection.{Protection}
 use Rattle.judgement.specs.Judging.{alignmentRule, blockedBy, endAnswer, checked, lockAnswer, readAnswer, writeAnswer}
 use Rattle.header_claims.specs.{Header.fieldsAt, Opening.candidate}

@@ -9,8 +9,8 @@ use Rattle.layout.specs.declared.Layout.{Layout}
 use Rattle.layout.specs.declared.Opened.the-variants as opening
 use Rattle.locations.specs.Locations.{located}
 use Rattle.opening.specs.Opening.{opened}
-use Rattle.header_writing.specs.HeaderWriting.{writtenRefusal}
-use Rattle.header_writing.specs.declared.Written.the-variants as writing
+use Rattle.answers.specs.Answers.{writtenRefusal}
+use Rattle.answers.specs.declared.Written.the-variants as writing
 use Rattle.sector_map.specs.SectorMap.{hostSector, userSector}
 use Rattle.tweaks.specs.Tweaks.{tweakOf}
 use Rattle.answers.specs.declared.Numbered.the-variants as numbered

@@ -18,11 +18,13 @@ use Rattle.opening.specs.Opening.{lengthsRule, codesRule, candidateAt, further,
 use Rattle.header_format.specs.Format.{newLengthsRule}
 use Rattle.new_header.specs.NewHeader.{newFields}
 use Rattle.header_writing.specs.HeaderWriting.{headerAnswer}
-use Rattle.header_writing.specs.declared.Written.{Written}
-use Rattle.header_writing.specs.declared.Written.the-variants as writing
-use Rattle.protection.specs.Protection.{areaEnd, protectionRule, paired}
-use Rattle.protection.specs.declared.{Pairing.Pairing, Protection.Protection}
-use Rattle.protection.specs.declared.Pairing.the-variants as pairing
+use Rattle.answers.specs.declared.Written.{Written}
+use Rattle.answers.specs.declared.Written.the-variants as writing
+use Rattle.protection.specs.Protection.{areaEnd, protectionRule}
+use Rattle.protection.specs.declared.Protection.{Protection}
+use Rattle.pairing.specs.Pairs.{paired}
+use Rattle.pairing.specs.declared.Pairing.{Pairing}
+use Rattle.pairing.specs.declared.Pairing.the-variants as pairing
 use Rattle.judgement.specs.Judging.{endAnswer, lockAnswer, readAnswer, writeAnswer}
 use Rattle.header_claims.specs.{Header.fieldsAt, Opening.candidate}
 

@@ -11,7 +11,8 @@ use Rattle.header_format.specs.Format.{magicNumber}
 use Rattle.opening.specs.Opening.{opened}
 use Rattle.key_bytes.specs.KeyBytes.{keysOffset, keysSize, KeyBytes}
 use Rattle.new_header.specs.NewHeader.{newFields, newHeader}
-use Rattle.header_writing.specs.{HeaderWriting.{askedLayout, headerLeft}, declared.Written.{Written, the-variants.Done}}
+use Rattle.answers.specs.declared.Written.{Written, the-variants.Done}
+use Rattle.header_writing.specs.HeaderWriting.{askedLayout, headerLeft}
 use Rattle.header_writing.proofs.AnswerLaws.{Passed, done-passed, done-lengths}
 use Rattle.header_laws.proofs.{OpenedOne.opened-one, Parts.{Parts, new-header-parts, new-header-bytes}, ReadBack.judged-back}
 use Rattle.header_claims.specs.Header.{veraLetters, trueLetters}

@@ -17,7 +17,7 @@ use Rattle.opening.specs.Opening.{opened}
 use Rattle.header_format.specs.Format.{newLengthsRule}
 use Rattle.new_header.specs.NewHeader.{newHeader}
 use Rattle.header_writing.specs.HeaderWriting.{askedLayout, headerAnswer, headerLeft}
-use Rattle.header_writing.specs.declared.Written.{Written, the-variants.Done}
+use Rattle.answers.specs.declared.Written.{Written, the-variants.Done}
 use Rattle.header_laws.proofs.{OpenedOne.opened-one, WrittenAgain.{Zeros, written-again, again-zeros, vera-zeros}}
 use Rattle.header_claims.specs.{Header.{veraLetters, trueLetters}, Opening.{Codes, Allowed}}
 use Rattle.header_claims.specs.{Numbers.AllZero, Writing.{Request, answerTo, leftBy, takenApart, WritesAgain}}

@@ -4,7 +4,8 @@ use Prim.Native.Nat.{ℕ, zero, suc, _<_}
 use native.Mathlib.Omega.{arith}
 use mathlib.Core.{Path.{_≡_, refl, sym, ap, subst, _∙_}, Logic.{_⊎_, inl, inr}, Bool.Bool, List.List}
 use lib.ListN.{length}
-use Rattle.header_writing.specs.{HeaderWriting.{headerAnswer, headerLeft}, declared.Written.{Written, the-variants.{Done, Refused}}}
+use Rattle.answers.specs.declared.Written.{Written, the-variants.{Done, Refused}}
+use Rattle.header_writing.specs.HeaderWriting.{headerAnswer, headerLeft}
 use Rattle.header_writing.proofs.AnswerLaws.{Passed, done-passed}
 use Rattle.header_claims.specs.Writing.{Request, answerTo, leftBy, Check, place, refusalOf, Passes, FirstFailed, WritesExactly}
 use Rattle.header_claims.specs.Writing.{rightLengths, knownMagic, knownCode, allowedHost, supportedVersion, allowedSectors, allowedArea}

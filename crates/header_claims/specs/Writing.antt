@@ -13,7 +13,7 @@ use Rattle.crc32.specs.Crc32.{crc32}
 use Rattle.header_format.specs.Format.{newLengthsRule}
 use Rattle.new_header.specs.NewHeader.{headerOver}
 use Rattle.header_writing.specs.HeaderWriting.{askedLayout, headerAnswer, headerLeft}
-use Rattle.header_writing.specs.declared.Written.{Written, the-variants.{Done, Refused}}
+use Rattle.answers.specs.declared.Written.{Written, the-variants.{Done, Refused}}
 use Rattle.header_claims.specs.Header.{bytesAt, veraLetters, trueLetters, Supported, SectorSize, DataArea}
 use Rattle.header_claims.specs.{Numbers.AllZero, Opening.{HostSize, kindOf}}
 

@@ -9,7 +9,7 @@ use Rattle.header_format.specs.Format.{truecrypt, versionRule}
 use Rattle.header_format.specs.Format.{newLengthsRule}
 use Rattle.new_header.proofs.LengthLaws.{lengths-right}
 use Rattle.header_writing.specs.HeaderWriting.{headerAnswer}
-use Rattle.header_writing.specs.declared.Written.{Written, the-variants.{Done, Refused}}
+use Rattle.answers.specs.declared.Written.{Written, the-variants.{Done, Refused}}
 
 abbrev IsDone : Written → Type 0
 IsDone Done = Unit

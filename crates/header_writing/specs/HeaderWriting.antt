@@ -3,17 +3,11 @@
 use Prim.Native.Nat.{ℕ}
 use mathlib.Core.List.{List}
 use lib.Dec.{leb}
-use Rattle.answers.specs.Answers.{line}
+use Rattle.answers.specs.{Answers.line, declared.Written.{Written, the-variants.{Done, Refused}}}
 use Rattle.layout.specs.{Rules.{hostSizeRule, sectorSizeRule, dataAreaRule}, declared.Layout.Layout}
 use Rattle.locations.specs.Locations.{codeRule, locationOf}
 use Rattle.header_format.specs.Format.{truecrypt, magicNumber, versionRule, newLengthsRule}
 use Rattle.new_header.specs.NewHeader.{newHeader}
-use Rattle.header_writing.specs.declared.Written.{Written, the-variants.{Done, Refused}}
-
--- the refusal number of the writer
-unfoldable pub writtenRefusal : Written → ℕ
-writtenRefusal Done = 0
-writtenRefusal (Refused number) = number
 
 -- what the header is to tell, as the layout of a first candidate; the kind is that of the code's location
 unfoldable pub askedLayout : List ℕ → ℕ → ℕ → ℕ → ℕ → ℕ → ℕ → ℕ → Layout

@@ -3,24 +3,9 @@
 ghost use mathlib.Core.Path.{_≡_};
 ghost use lib.ListN.{length};
 ghost use Rattle.locations.specs.Locations.{locationOf};
-ghost use Rattle.header_writing.specs.HeaderWriting.{writtenRefusal, askedLayout, headerAnswer, headerLeft};
+ghost use Rattle.header_writing.specs.HeaderWriting.{askedLayout, headerAnswer, headerLeft};
+use answers::Written;
 use layout::Layout;
-
-// The header is written, or a refusal number.
-pub enum Written {
-    Done,
-    Refused(u8),
-}
-
-// The refusal number of an answer, 0 where the header is written.
-pub fn refusal(written: Written) -> u8
-    ensures { λ r. ⌜ r ≡ writtenRefusal written ⌝ }
-{
-    match written {
-        Written::Done => 0,
-        Written::Refused(number) => number,
-    }
-}
 
 // Writes the header of a volume, for a location code and a host's size, over all of header. Both checksums are
 // made, and what no field takes is zero. A refusal leaves header as it was: 1 for the length of salt, keys or

@@ -1,4 +1,4 @@
--- What an acceptance says of a call, how the later checks of a write join those of every call, and the lock after one.
+-- What an acceptance says of a call, and how the later checks of a write join those of every call.
 -- Assumes nothing.
 use Prim.Native.Nat.{ℕ, _+_, _*_, _≤_}
 use native.Mathlib.Omega.{arith}
@@ -13,17 +13,8 @@ use Rattle.layout.specs.{Rules.{sectorBytes, sound}, declared.Layout.Layout}
 use Rattle.layout.proofs.RuleLaws.{and-true-left, sound-ends}
 use Rattle.protection.specs.{Protection.{protectionRule, soundProtection, protectedExtent}, declared.Protection.Protection}
 use Rattle.sector_map.specs.SectorMap.{sectors}
-use Rattle.judgement.specs.Judging.{maxCount, alignmentRule, blockedBy, endAnswer, checked, lockAnswer, readAnswer, writeAnswer, lockedAfter}
+use Rattle.judgement.specs.Judging.{maxCount, alignmentRule, blockedBy, endAnswer, checked, lockAnswer, readAnswer, writeAnswer}
 use Rattle.judgement.specs.Offsets.{extentStart}
-
--- 18 closes the lock, and no other number does
-pub lock-closed : {number : ℕ} (locked : Bool) → number ≡ 18 → true ≡ lockedAfter locked number
-unfolding lockedAfter
-lock-closed {number = number} locked e = ap (λ (closes : Bool). cond closes true locked) (sym (eq-eqb number 18 e))
-
-pub lock-left-alone : {number : ℕ} (locked : Bool) → (number ≡ 18 → ⊥) → locked ≡ lockedAfter locked number
-unfolding lockedAfter
-lock-left-alone {number = number} locked f = ap (λ (closes : Bool). cond closes true locked) (sym (ne-eqb number 18 f))
 
 -- a check of an extent, by what was found in its way
 module _ (number : ℕ) (later : Answer) {found way : Overlap} (finds : found ≡ way) where

@@ -51,7 +51,3 @@ readAnswer layout protection imageSize first count bufferSize = checked layout p
 unfoldable pub writeAnswer : Layout → Protection → Bool → ℕ → ℕ → ℕ → ℕ → Answer
 writeAnswer layout protection locked imageSize first count bufferSize =
     checked layout protection imageSize first count bufferSize (lockAnswer layout protection locked first count)
-
--- a lock after a write, by the number that the write is refused by: 18 closes it
-unfoldable pub lockedAfter : Bool → ℕ → Bool
-lockedAfter locked number = cond (eqb number 18) true locked

@@ -7,7 +7,7 @@ ghost use Prim.Native.Nat.{_≤_};
 ghost use Rattle.layout.specs.Rules.{sectorSizeRule, sound};
 ghost use Rattle.sector_map.specs.SectorMap.{sectors};
 ghost use Rattle.answers.specs.declared.Answer.the-variants.{Accepted};
-ghost use Rattle.judgement.specs.Judging.{alignmentRule, readAnswer, writeAnswer, endAnswer, lockAnswer, lockedAfter};
+ghost use Rattle.judgement.specs.Judging.{alignmentRule, readAnswer, writeAnswer, endAnswer, lockAnswer};
 ghost use Rattle.judgement.specs.Offsets.{extentStart, placedBy};
 use answers::Answer;
 use answers::Placement;
@@ -58,16 +58,6 @@ pub fn write_extent(
         buffer_size,
     );
     place(answer, layout, first)
-}
-
-// A lock after a write that returned this number: 18 closes it.
-pub fn locked_after(locked: bool, number: u8) -> bool
-    ensures { λ r. ⌜ r ≡ lockedAfter locked number ⌝ }
-{
-    if number == 18 {
-        return true;
-    }
-    locked
 }
 
 // What a read answers: the checks of every call.

@@ -3,8 +3,9 @@ use Prim.Native.Nat.{ℕ}
 use mathlib.Core.Bool.{Bool, false}
 use Rattle.answers.specs.Answers.{line}
 use Rattle.layout.specs.{Rules.sound, declared.Layout.Layout}
-use Rattle.protection.specs.{Protection.{areaEnd, paired}, declared.{Pairing.Pairing, Protection.the-variants.{Unprotected, Protected}}}
-use Rattle.protection.specs.declared.Pairing.the-variants as pairing
+use Rattle.protection.specs.{Protection.areaEnd, declared.Protection.the-variants.{Unprotected, Protected}}
+use Rattle.pairing.specs.{Pairs.paired, declared.Pairing.Pairing}
+use Rattle.pairing.specs.declared.Pairing.the-variants as pairing
 use Rattle.view.specs.declared.View.{View}
 use Rattle.making.specs.declared.Viewed.{Viewed, the-variants.{Made, Refused}}
 

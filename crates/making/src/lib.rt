@@ -1,9 +1,9 @@
 // How a view of a volume is made: alone, or with a hidden volume protected.
 // Assumes nothing; no function has a `requires`.
 ghost use mathlib.Core.Path.{_≡_};
-ghost use Rattle.making.specs.Views.{plainView, protectedView, viewedRefusal};
+ghost use Rattle.making.specs.Views.{plainView, protectedView};
 use layout::Layout;
-use protection::Pairing;
+use pairing::Pairing;
 use protection::Protection;
 use view::View;
 
@@ -11,16 +11,6 @@ use view::View;
 pub enum Viewed {
     Made(View),
     Refused(u8),
-}
-
-// The refusal number of a view's making, 0 where it is a view.
-pub fn refusal(viewed: Viewed) -> u8
-    ensures { λ r. ⌜ r ≡ viewedRefusal viewed ⌝ }
-{
-    match viewed {
-        Viewed::Made(_) => 0,
-        Viewed::Refused(number) => number,
-    }
 }
 
 // A view of a volume alone. Refuses 11 for a layout that is not sound.
@@ -42,7 +32,7 @@ pub fn plain(layout: Layout) -> Viewed
 pub fn protected(outer: Layout, hidden: Layout) -> Viewed
     ensures { λ r. ⌜ r ≡ protectedView outer hidden ⌝ }
 {
-    let pair = protection::check_pair(outer, hidden);
+    let pair = pairing::check_pair(outer, hidden);
     match pair {
         Pairing::Nested => {
             let end = hidden.data_start + hidden.data_size;

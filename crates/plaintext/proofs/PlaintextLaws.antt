@@ -9,7 +9,8 @@ use Rattle.fields.specs.Bytes.{overlay}
 use Rattle.answers.specs.{Answers.{isAccepted, answerRefusal}, declared.Answer.{Answer, the-variants.Accepted}}
 use Rattle.layout.specs.declared.Layout.{Layout}
 use Rattle.sector_map.specs.SectorMap.{firstSector}
-use Rattle.judgement.specs.{Judging.lockedAfter, Offsets.extentStart}
+use Rattle.answers.specs.Answers.{lockedAfter}
+use Rattle.judgement.specs.Offsets.{extentStart}
 use Rattle.aes.specs.declared.Direction.the-variants.{Encipher, Decipher}
 use Rattle.xts.specs.{Runs.{inUnits, convertedRun}, Units.{enciphered, deciphered}}
 use Rattle.fields.proofs.OverlayLaws.{part-size, part-laid}

@@ -66,7 +66,7 @@ impl KeyedView {
             count,
             buffer,
         );
-        let locked = judgement::locked_after(view.locked, answers::refusal(answer));
+        let locked = answers::locked_after(view.locked, answers::refusal(answer));
         KeyedOutcome {
             keyed: KeyedView {
                 view: View {

@@ -3,8 +3,8 @@
 use Prim.Native.Nat.{ℕ}
 use mathlib.Core.{Path._≡_, List.List}
 use lib.ListN.{length}
-use Rattle.answers.specs.{Answers.answerRefusal, declared.Answer.Answer}
-use Rattle.judgement.specs.{Judging.{readAnswer, writeAnswer, lockedAfter}, Offsets.placedBy}
+use Rattle.answers.specs.{Answers.{answerRefusal, lockedAfter}, declared.Answer.Answer}
+use Rattle.judgement.specs.{Judging.{readAnswer, writeAnswer}, Offsets.placedBy}
 use Rattle.access.specs.Moving.{filledBy, writtenBy}
 use Rattle.view.specs.declared.{Outcome.Outcome, Placed.Placed, View.View}
 

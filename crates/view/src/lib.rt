@@ -48,7 +48,7 @@ impl View {
         let layout = self.layout;
         let protection = self.protection;
         let answer = access::write(layout, protection, self.locked, image, first, count, buffer);
-        let locked = judgement::locked_after(self.locked, answers::refusal(answer));
+        let locked = answers::locked_after(self.locked, answers::refusal(answer));
         Outcome {
             view: View {
                 layout,
@@ -95,7 +95,7 @@ impl View {
             count,
             buffer_size,
         );
-        let locked = judgement::locked_after(self.locked, answers::placement_refusal(placement));
+        let locked = answers::locked_after(self.locked, answers::placement_refusal(placement));
         Placed {
             view: View {
                 layout,

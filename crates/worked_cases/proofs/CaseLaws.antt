@@ -7,10 +7,12 @@ use Rattle.numbers.specs.Numbers.{littleEndianBytes}
 use Rattle.layout.specs.Rules.{multiple, hostSizeRule, sectorSizeRule, placeRule, sectorsRule, dataAreaRule, sound}
 use Rattle.sector_map.specs.SectorMap.{sectors, firstSector, hostSector, userSector}
 use Rattle.tweaks.specs.Tweaks.{tweakNumber, blockOf, tweakOf}
-use Rattle.judgement.specs.Judging.{alignmentRule, blockedBy, endAnswer, checked, lockAnswer, readAnswer, writeAnswer, lockedAfter}
+use Rattle.judgement.specs.Judging.{alignmentRule, blockedBy, endAnswer, checked, lockAnswer, readAnswer, writeAnswer}
+use Rattle.answers.specs.Answers.{lockedAfter}
 use Rattle.answers.specs.Answers.{answerRefusal, answerSector}
 use Rattle.extent.specs.Extents.{has, larger, overlap, beyond}
-use Rattle.protection.specs.Protection.{areaEnd, protectionRule, soundProtection, protectedExtent, nests, paired}
+use Rattle.protection.specs.Protection.{areaEnd, protectionRule, soundProtection, protectedExtent}
+use Rattle.pairing.specs.Pairs.{nests, paired}
 use Rattle.view.specs.Outcomes.{after}
 use Rattle.making.specs.Views.{plainOf, protectedOf, madeBy, plainView, protectedView}
 use Rattle.map_output.specs.Decimal.{digits, decimal}

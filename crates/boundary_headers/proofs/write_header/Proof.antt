@@ -5,7 +5,8 @@ use mathlib.Core.{List.List, Path.{_≡_, ap, _∙_}}
 use denote.Ref.{now}
 use lib.ListN.{length}
 use borrow.Author.Needs.{needs}
-use Rattle.header_writing.specs.{HeaderWriting.{writtenRefusal, askedLayout, headerAnswer, headerLeft}, declared.Written.Written}
+use Rattle.answers.specs.{Answers.writtenRefusal, declared.Written.Written}
+use Rattle.header_writing.specs.HeaderWriting.{askedLayout, headerAnswer, headerLeft}
 use Rattle.boundary_headers.proofs.write_header.Statement.{statement}
 use Rattle.boundary_headers.proofs.write_header.Tie as tie
 
@@ -18,7 +19,7 @@ returns c =
     let header : List ℕ = now (args .header) in
     let layout = askedLayout (now (args .magic)) (args .version) (args .min-program-version) (args .code) (args .host-size) (args .data-start) (args .data-size) (args .sector-size) in
     let answer : write .write .result ≡ headerAnswer (args .code) layout (length salt) (length keys) (length header) = write .write .ensures .0 in (
-      c .refusal .ensures ∙ ap writtenRefusal answer,
+      c .written-refusal .ensures ∙ ap writtenRefusal answer,
       write .write .ensures .1 ∙ ap (λ (written : Written). headerLeft written layout salt keys header) answer,
     )
 

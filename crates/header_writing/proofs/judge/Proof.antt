@@ -9,7 +9,7 @@ use Rattle.locations.specs.Locations.{codeRule}
 use Rattle.header_format.specs.Format.{versionRule}
 use Rattle.header_format.specs.Format.{newLengthsRule}
 use Rattle.header_writing.specs.HeaderWriting.{headerAnswer}
-use Rattle.header_writing.specs.declared.Written.{Written, the-variants.{Done, Refused}}
+use Rattle.answers.specs.declared.Written.{Written, the-variants.{Done, Refused}}
 use Rattle.header_writing.proofs.judge.Statement.{statement}
 use Rattle.header_writing.proofs.judge.Tie as tie
 

@@ -4,7 +4,7 @@ use native.Mathlib.Omega.{arith}
 use borrow.Author.Needs.{needs}
 use Rattle.layout.proofs.RuleLaws.{sound-end-le}
 use Rattle.protection.specs.Protection.{areaEnd}
-use Rattle.protection.proofs.ProtectionLaws.{pair-hidden-sound}
+use Rattle.pairing.proofs.PairLaws.{pair-hidden-sound}
 use Rattle.making.specs.Views.{protectedView, protectedOf, madeBy}
 use Rattle.making.proofs.protected.Statement.{statement}
 use Rattle.making.proofs.protected.Tie as tie

@@ -1,6 +1,6 @@
 -- `plaintext::KeyedView::write` meets its contract: what the write answers and leaves, and the lock after it. Assumes nothing.
 use mathlib.Core.Path.{ap, _∙_}
-use Rattle.judgement.specs.Judging.{lockedAfter}
+use Rattle.answers.specs.Answers.{lockedAfter}
 use Rattle.plaintext.proofs.PlaintextLaws.{plain-write-post}
 use borrow.Author.Needs.{needs}
 use Rattle.plaintext.proofs.KeyedView.write.Statement.{statement}

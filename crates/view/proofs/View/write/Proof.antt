@@ -2,7 +2,7 @@
 -- Assumes nothing.
 use borrow.Author.Needs.{needs}
 use mathlib.Core.Path.{ap, _∙_}
-use Rattle.judgement.specs.Judging.{lockedAfter}
+use Rattle.answers.specs.Answers.{lockedAfter}
 use Rattle.view.proofs.OutcomeLaws.{write-post}
 use Rattle.view.proofs.View.write.Statement.{statement}
 use Rattle.view.proofs.View.write.Tie as tie

@@ -1,12 +1,12 @@
--- `protection::check_pair` meets its contract: both layouts sound, then the two nested.
+-- `pairing::check_pair` meets its contract: both layouts sound, then the two nested.
 -- Assumes nothing.
 use mathlib.Core.{Path.{_≡_, sym, _∙_}, Bool.true}
 use borrow.Author.Needs.{needs}
 use borrow.Author.Tests.{not-true, not-false}
 use Rattle.layout.specs.Rules.{sound}
-use Rattle.protection.specs.Protection.{paired}
-use Rattle.protection.proofs.check_pair.Statement.{statement}
-use Rattle.protection.proofs.check_pair.Tie as tie
+use Rattle.pairing.specs.Pairs.{paired}
+use Rattle.pairing.proofs.check_pair.Statement.{statement}
+use Rattle.pairing.proofs.check_pair.Tie as tie
 
 -- what the first two tests tell once they are passed
 outer-sound : (c : tie.Else1) → sound (c .before .before .args .outer) ≡ true

@@ -1,14 +1,15 @@
--- `protection::do_nest` meets its contract: each return is under the tests that decide the rule, in their order.
+-- `pairing::do_nest` meets its contract: each return is under the tests that decide the rule, in their order.
 -- Assumes nothing.
 use mathlib.Core.{Path.{_≡_, _∙_}, Bool.true}
 use lib.Dec.{eqb}
 use borrow.Author.Needs.{needs}
 use borrow.Author.Tests.{eq-eqb, ne-eqb, le-leb, lt-leb}
 use Rattle.layout.specs.Rules.{standard, hidden}
-use Rattle.protection.specs.Protection.{areaEnd, nests}
-use Rattle.protection.proofs.ProtectionLaws.{leb-sub-add}
-use Rattle.protection.proofs.do_nest.Statement.{statement}
-use Rattle.protection.proofs.do_nest.Tie as tie
+use Rattle.protection.specs.Protection.{areaEnd}
+use Rattle.pairing.specs.Pairs.{nests}
+use Rattle.pairing.proofs.PairLaws.{leb-sub-add}
+use Rattle.pairing.proofs.do_nest.Statement.{statement}
+use Rattle.pairing.proofs.do_nest.Tie as tie
 
 returns : tie.Need-returns
 unfolding nests

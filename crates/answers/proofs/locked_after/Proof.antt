@@ -1,8 +1,8 @@
--- `judgement::locked_after` meets its contract.
+-- `answers::locked_after` meets its contract.
 -- Assumes nothing.
-use Rattle.judgement.proofs.JudgingLaws.{lock-closed, lock-left-alone}
-use Rattle.judgement.proofs.locked_after.Statement.{statement}
-use Rattle.judgement.proofs.locked_after.Tie as tie
+use Rattle.answers.proofs.LockLaws.{lock-closed, lock-left-alone}
+use Rattle.answers.proofs.locked_after.Statement.{statement}
+use Rattle.answers.proofs.locked_after.Tie as tie
 
 returns : tie.Need-returns
 returns c = lock-closed _ (c .if1 .taken)

@@ -1,11 +1,11 @@
--- `protection::fits` meets its contract.
+-- `pairing::fits` meets its contract.
 -- Assumes nothing.
 use Prim.Native.Nat.{_+_, _-_, _<_}
 use native.Mathlib.Omega.{arith}
 use borrow.Author.Tests.{lt-leb}
 use Rattle.layout.proofs.TestLaws.{leb-iff}
-use Rattle.protection.proofs.fits.Statement.{statement}
-use Rattle.protection.proofs.fits.Tie as tie
+use Rattle.pairing.proofs.fits.Statement.{statement}
+use Rattle.pairing.proofs.fits.Tie as tie
 
 returns : tie.Need-returns
 returns c =
