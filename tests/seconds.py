@@ -8,7 +8,7 @@ from pathlib import Path
 
 sys.dont_write_bytecode = True
 sys.path.insert(0, str(Path(__file__).resolve().parent.parent / 'tools'))
-from seconds import kept_text, read_kept, read_log, remarks, table  # noqa: E402
+from seconds import kept_text, named_slow, read_kept, read_log, remarks, table  # noqa: E402
 
 OLD_LOG = '''\
 rt: low proved (11 s)
@@ -36,6 +36,13 @@ SECONDS = '''\
 | the whole gate | 70 | 40 |  |  |
 '''
 
+PAGE = '''\
+`high` is a crate.
+Crates with edits that take more than 8 s: `low` computes.
+
+## Another part, of `middle`
+'''
+
 KEPT = '''\
 crate,check,edits,count
 low,5,6,1
@@ -60,6 +67,8 @@ def problems():
         yield f'of what grew it says {grown}'
     if any('low' in sentence or 'high' in sentence for sentence in remarks(new, old, {'low'})):
         yield 'it tells of a crate that is named, or of one without edits'
+    if named_slow(PAGE) != {'low'}:
+        yield f'of the made-up page it takes {named_slow(PAGE)} as slow'
 
 
 def main():

@@ -91,6 +91,12 @@ def remarks(old, new, named):
         yield f'More than {LIMIT} s with edits, and not named in {PROVING}: {", ".join(slow)}.'
 
 
+def named_slow(page):
+    """The crates that PROVING.md names as slow: what stands in backticks behind the sentence that says so."""
+    _, _, part = page.partition('Crates with edits that take more than')
+    return set(re.findall(r'`(\w+)`', part.partition('\n## ')[0]))
+
+
 def main():
     words = [word for word in sys.argv[1:] if word != '--keep']
     keep = '--keep' in sys.argv
@@ -102,7 +108,7 @@ def main():
         return
     old = read(words[1] if words[1:] else ROOT / KEPT)
     print(table(old, new), end='')
-    named = set(re.findall(r'`(\w+)`', (ROOT / PROVING).read_text()))
+    named = named_slow((ROOT / PROVING).read_text())
     print(''.join(f'\n{sentence}' for sentence in remarks(old, new, named)))
 
 
