@@ -4,8 +4,7 @@ use Prim.Native.Nat.{ℕ, _+_, _*_, _/_, _≤_}
 use mathlib.Core.{Path.{_≡_, refl, sym}, Bool.{Bool, true, false, _&&_, true≢false}, List.List}
 use lib.{Dec.{leb, eqb}, ListN.length}
 use borrow.Author.Tests.{leb-true, eqb-true}
-use Rattle.answers.specs.Answers.{lockedAfter}
-use Rattle.answers.specs.{Answers.{isAccepted, answerRefusal, Naming, unnamed, named}, declared.Answer.{Answer, the-variants.{Accepted, Refused, RefusedAt}}}
+use Rattle.answers.specs.{Answers.{isAccepted, answerRefusal, lockedAfter, Naming, unnamed, named}, declared.Answer.{Answer, the-variants.{Accepted, Refused, RefusedAt}}}
 use Rattle.layout.specs.declared.Layout.{Layout}
 use Rattle.sector_map.specs.SectorMap.{sectors}
 use Rattle.access_claims.specs.ReferenceModel.{isWrite, lockLeft}

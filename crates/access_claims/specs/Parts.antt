@@ -4,10 +4,9 @@
 use Prim.Native.Nat.{ℕ, _+_, _*_, _<_, _≤_}
 use mathlib.Core.{Path._≡_, Logic._↔_, Bool.{Bool, true, false}, List.{List, _++_}}
 use lib.ListN.{length, take, drop}
-use Rattle.answers.specs.Answers.{lockedAfter}
 use Rattle.judgement.specs.Judging.{alignmentRule}
 use Rattle.judgement.specs.Offsets.{placedBy}
-use Rattle.answers.specs.Answers.{isAccepted, answerRefusal}
+use Rattle.answers.specs.Answers.{isAccepted, answerRefusal, lockedAfter}
 use Rattle.answers.specs.declared.{Answer.{Answer, the-variants.{Accepted, Refused, RefusedAt}}, Numbered.the-variants.Number}
 use Rattle.answers.specs.declared.Placement.the-variants as placement
 use Rattle.copy.specs.Copy.{copied}

@@ -5,7 +5,6 @@ use mathlib.Core.{Path.{_≡_, ap, ap₂}, List.{List, [], _∷_}}
 use lib.ListN.{getD}
 use Rattle.bits.specs.Bits.{entries}
 use Rattle.bits.proofs.EntriesLaws.{entries-from-0, entries-same}
-use Rattle.aes_tables.specs.Field.{inverse}
 use Rattle.aes_tables.specs.SBox.{bit, byteOf, affine, inverseAffine, substituted, restored, cipherTables}
 use Rattle.aes_tables.proofs.InverseLaws.{inverses, inverse-at}
 

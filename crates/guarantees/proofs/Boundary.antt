@@ -4,11 +4,10 @@ use Prim.Native.Nat.{ℕ}
 use native.Mathlib.Omega.{arith}
 use mathlib.Core.{Path.{_≡_, refl, _∙_}, List.List}
 use lib.ListN.{length}
-use Rattle.answers.specs.Answers.{numberedRefusal, answerRefusal, answerSector, placementRefusal}
+use Rattle.answers.specs.Answers.{numberedRefusal, answerRefusal, answerSector, placementRefusal, writtenRefusal}
 use Rattle.layout.specs.Opened.{openedRefusal}
 use Rattle.key_bytes.specs.KeyBytes.{keysOffset, keysSize}
 use Rattle.opening.proofs.OpenedLaws.{opened-inside}
-use Rattle.answers.specs.Answers.{writtenRefusal}
 use Rattle.tweaks.specs.Tweaks.{tweakOf, tweakNumber}
 use Rattle.making.specs.Views.{viewedRefusal}
 use Rattle.protection.specs.declared.Protection.{Protection, the-variants.{Unprotected, Protected}}

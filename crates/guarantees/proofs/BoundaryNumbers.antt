@@ -5,8 +5,7 @@ use native.Mathlib.Omega.{arith}
 use mathlib.Core.{Path.{_≡_, refl, sym, ap, _∙_}, Bool.{Bool, true, false, cond}, List.{List, [], _∷_, _++_}}
 use lib.{Dec.{ltb, eqb}, ListN.{length, getD, set, take, drop}, Seq.{getD-set-same, getD-set-other, set-split, drop-length}}
 use borrow.Author.Tests.{ltb-true}
-use Rattle.answers.specs.Answers.{lockedAfter}
-use Rattle.answers.specs.{Answers.answerRefusal, declared.Answer.{Answer, the-variants.{Accepted, Refused}}}
+use Rattle.answers.specs.{Answers.{answerRefusal, lockedAfter}, declared.Answer.{Answer, the-variants.{Accepted, Refused}}}
 use Rattle.layout.specs.declared.Layout.{Layout}
 use Rattle.protection.specs.declared.Protection.{Protection, the-variants.{Unprotected, Protected}}
 use Rattle.view.specs.{declared.View.View, Outcomes.after}

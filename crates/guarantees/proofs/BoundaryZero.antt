@@ -5,7 +5,7 @@ use native.Mathlib.Omega.{arith}
 use mathlib.Core.{Path.{_≡_, refl, sym, ap, subst, _∙_}, Logic.{_↔_, ⊎-elim}, Bool.{Bool, true, false, _&&_, cond}, List.List}
 use lib.{Dec.{leb, ltb, eqb}, ListN.length}
 use borrow.Author.Tests.{eqb-false}
-use Rattle.answers.specs.{Answers.{line, answerRefusal, numberedRefusal}, declared.{Answer.Answer, Numbered.the-variants.Number}}
+use Rattle.answers.specs.{Answers.{line, answerRefusal, numberedRefusal, writtenRefusal}, declared.{Answer.Answer, Numbered.the-variants.Number, Written.Written}}
 use Rattle.answers.proofs.AnswerLaws.{refused-accepted, refused-at-accepted}
 use Rattle.layout.specs.{Opened.openedRefusal, Rules.{hostSizeRule, sound}, declared.{Layout.Layout, Opened.Opened}}
 use Rattle.layout.specs.declared.Opened.the-variants.{Accepted, Refused}
@@ -18,7 +18,6 @@ use Rattle.view.specs.{Outcomes.{viewRead, viewWrite}, declared.View.View}
 use Rattle.making.specs.{Views.{madeBy, plainView, protectedView, viewedRefusal}, declared.Viewed.the-variants.Made}
 use Rattle.answers.specs.declared.Answer.the-variants as access
 use Rattle.pairing.specs.declared.Pairing.the-variants as pairing
-use Rattle.answers.specs.{Answers.writtenRefusal, declared.Written.Written}
 use Rattle.answers.specs.declared.Written.the-variants as writing
 use Rattle.header_writing.proofs.AnswerLaws.{refused-done}
 use Rattle.guarantees.specs.Boundary.{ZeroAccepts}

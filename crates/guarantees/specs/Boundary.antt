@@ -3,13 +3,12 @@
 use Prim.Native.Nat.{ℕ, _+_, _*_, _≤_}
 use mathlib.Core.{Path._≡_, Logic._↔_, Bool.{not, cond}, List.{List, [], _∷_, _++_}}
 use lib.{Dec.eqb, ListN.{length, take}}
-use Rattle.answers.specs.Answers.{numberedRefusal, answerRefusal, placementRefusal}
+use Rattle.answers.specs.Answers.{numberedRefusal, answerRefusal, placementRefusal, writtenRefusal}
 use Rattle.layout.specs.Opened.{openedRefusal}
 use Rattle.layout.specs.declared.Layout.{Layout}
 use Rattle.layout.specs.declared.Opened.the-variants as opening
 use Rattle.locations.specs.Locations.{located}
 use Rattle.opening.specs.Opening.{opened}
-use Rattle.answers.specs.Answers.{writtenRefusal}
 use Rattle.answers.specs.declared.Written.the-variants as writing
 use Rattle.sector_map.specs.SectorMap.{hostSector, userSector}
 use Rattle.tweaks.specs.Tweaks.{tweakOf}

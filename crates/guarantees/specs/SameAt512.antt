@@ -4,7 +4,7 @@ use Prim.Native.Nat.{ℕ, suc, _*_, _%_, _<_}
 use mathlib.Core.{Path._≡_, Bool.{Bool, true, _&&_, cond}, List.{List, [], _∷_, foldl}}
 use lib.{Dec.{leb, eqb}, ListN.length}
 use Rattle.answers.specs.Answers.{line, answerRefusal}
-use Rattle.answers.specs.declared.Answer.{Answer, the-variants.{Accepted, Refused}}
+use Rattle.answers.specs.declared.{Answer.{Answer, the-variants.{Accepted, Refused}}, Written.Written}
 use Rattle.layout.specs.Rules.{standard, hidden, hostSizeRule, sectorSizeRule, placeRule, dataAreaRule, sound}
 use Rattle.layout.specs.declared.{Layout.Layout, Opened.Opened}
 use Rattle.layout.specs.declared.Opened.the-variants as opening
@@ -18,12 +18,10 @@ use Rattle.opening.specs.Opening.{lengthsRule, codesRule, candidateAt, further,
 use Rattle.header_format.specs.Format.{newLengthsRule}
 use Rattle.new_header.specs.NewHeader.{newFields}
 use Rattle.header_writing.specs.HeaderWriting.{headerAnswer}
-use Rattle.answers.specs.declared.Written.{Written}
 use Rattle.answers.specs.declared.Written.the-variants as writing
 use Rattle.protection.specs.Protection.{areaEnd, protectionRule}
 use Rattle.protection.specs.declared.Protection.{Protection}
-use Rattle.pairing.specs.Pairs.{paired}
-use Rattle.pairing.specs.declared.Pairing.{Pairing}
+use Rattle.pairing.specs.{Pairs.paired, declared.Pairing.Pairing}
 use Rattle.pairing.specs.declared.Pairing.the-variants as pairing
 use Rattle.judgement.specs.Judging.{endAnswer, lockAnswer, readAnswer, writeAnswer}
 use Rattle.header_claims.specs.{Header.fieldsAt, Opening.candidate}

@@ -2,14 +2,13 @@
 use Prim.Native.Nat.{ℕ}
 use mathlib.Core.{Path.{_≡_, refl, sym, subst}, Bool.{Bool, true, false}}
 use lib.Dec.{leb}
-use Rattle.answers.specs.Answers.{line}
+use Rattle.answers.specs.{Answers.line, declared.Written.{Written, the-variants.{Done, Refused}}}
 use Rattle.layout.specs.{Rules.{hostSizeRule, sectorSizeRule, dataAreaRule}, declared.Layout.Layout}
 use Rattle.locations.specs.Locations.{codeRule}
 use Rattle.header_format.specs.Format.{truecrypt, versionRule}
 use Rattle.header_format.specs.Format.{newLengthsRule}
 use Rattle.new_header.proofs.LengthLaws.{lengths-right}
 use Rattle.header_writing.specs.HeaderWriting.{headerAnswer}
-use Rattle.answers.specs.declared.Written.{Written, the-variants.{Done, Refused}}
 
 abbrev IsDone : Written → Type 0
 IsDone Done = Unit

@@ -1,7 +1,7 @@
 -- The order of checks (RULES.md, Reads and writes): what a read or a write answers, by lengths and numbers alone. What the contracts of
 -- `judgement` and `access` cite. Assumes nothing.
 use Prim.Native.Nat.{ℕ, _*_, _/_}
-use mathlib.Core.Bool.{Bool, true, not, _&&_, cond}
+use mathlib.Core.Bool.{Bool, not, _&&_}
 use lib.Dec.{leb, eqb}
 use Rattle.answers.specs.{Answers.line, declared.Answer.{Answer, the-variants.{Accepted, Refused, RefusedAt}}}
 use Rattle.extent.specs.{Extents.{overlap, beyond}, declared.Overlap.{Overlap, the-variants.{Apart, From}}}

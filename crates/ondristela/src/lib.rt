@@ -6,12 +6,11 @@
 // Assumes nothing; no public function has a `requires`.
 ghost use mathlib.Core.Path.{_≡_};
 ghost use lib.ListN.{length};
-ghost use Rattle.answers.specs.Answers.{numberedRefusal};
+ghost use Rattle.answers.specs.Answers.{numberedRefusal, writtenRefusal};
 ghost use Rattle.crc32.specs.Crc32.{crc32};
 ghost use Rattle.layout.specs.Opened.{openedRefusal};
 ghost use Rattle.locations.specs.Locations.{located};
 ghost use Rattle.opening.specs.Opening.{opened};
-ghost use Rattle.answers.specs.Answers.{writtenRefusal};
 ghost use Rattle.header_writing.specs.HeaderWriting.{askedLayout, headerAnswer, headerLeft};
 ghost use Rattle.sector_map.specs.SectorMap.{hostSector, userSector};
 ghost use Rattle.tweaks.specs.Tweaks.{tweakOf};

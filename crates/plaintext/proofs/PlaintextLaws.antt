@@ -6,10 +6,9 @@ use mathlib.Core.{Path.{_≡_, refl, sym, ap, ap₂, _∙_}, Bool.{Bool, false},
 use lib.ListN.{length, take, drop}
 use borrow.Rule.Slice.PartMut.{putMid}
 use Rattle.fields.specs.Bytes.{overlay}
-use Rattle.answers.specs.{Answers.{isAccepted, answerRefusal}, declared.Answer.{Answer, the-variants.Accepted}}
+use Rattle.answers.specs.{Answers.{isAccepted, answerRefusal, lockedAfter}, declared.Answer.{Answer, the-variants.Accepted}}
 use Rattle.layout.specs.declared.Layout.{Layout}
 use Rattle.sector_map.specs.SectorMap.{firstSector}
-use Rattle.answers.specs.Answers.{lockedAfter}
 use Rattle.judgement.specs.Offsets.{extentStart}
 use Rattle.aes.specs.declared.Direction.the-variants.{Encipher, Decipher}
 use Rattle.xts.specs.{Runs.{inUnits, convertedRun}, Units.{enciphered, deciphered}}

@@ -3,8 +3,7 @@
 use Prim.Native.Nat.{ℕ}
 use mathlib.Core.{Path.{_≡_, refl, ap, _∙_}, Bool.Bool, List.List}
 use lib.ListN.{length}
-use Rattle.answers.specs.{Answers.answerRefusal, declared.Answer.Answer}
-use Rattle.answers.specs.Answers.{lockedAfter}
+use Rattle.answers.specs.{Answers.{answerRefusal, lockedAfter}, declared.Answer.Answer}
 use Rattle.access.specs.Moving.{filledBy, writtenBy}
 use Rattle.view.specs.{Outcomes.{viewRead, viewWrite, after, ReadPost, WritePost}, declared.View.View}
 

@@ -8,8 +8,7 @@ use Rattle.layout.specs.Rules.{multiple, hostSizeRule, sectorSizeRule, placeRul
 use Rattle.sector_map.specs.SectorMap.{sectors, firstSector, hostSector, userSector}
 use Rattle.tweaks.specs.Tweaks.{tweakNumber, blockOf, tweakOf}
 use Rattle.judgement.specs.Judging.{alignmentRule, blockedBy, endAnswer, checked, lockAnswer, readAnswer, writeAnswer}
-use Rattle.answers.specs.Answers.{lockedAfter}
-use Rattle.answers.specs.Answers.{answerRefusal, answerSector}
+use Rattle.answers.specs.Answers.{answerRefusal, answerSector, lockedAfter}
 use Rattle.extent.specs.Extents.{has, larger, overlap, beyond}
 use Rattle.protection.specs.Protection.{areaEnd, protectionRule, soundProtection, protectedExtent}
 use Rattle.pairing.specs.Pairs.{nests, paired}

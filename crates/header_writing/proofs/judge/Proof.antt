@@ -3,13 +3,12 @@
 use mathlib.Core.{Path.{_≡_, refl, sym, _∙_}, Bool.true}
 use borrow.Author.Needs.{needs}
 use borrow.Author.Tests.{le-leb, lt-leb, not-true, not-false}
-use Rattle.answers.specs.Answers.{line}
+use Rattle.answers.specs.{Answers.line, declared.Written.{Written, the-variants.{Done, Refused}}}
 use Rattle.layout.specs.{Rules.{hostSizeRule, sectorSizeRule, dataAreaRule}, declared.Layout.Layout}
 use Rattle.locations.specs.Locations.{codeRule}
 use Rattle.header_format.specs.Format.{versionRule}
 use Rattle.header_format.specs.Format.{newLengthsRule}
 use Rattle.header_writing.specs.HeaderWriting.{headerAnswer}
-use Rattle.answers.specs.declared.Written.{Written, the-variants.{Done, Refused}}
 use Rattle.header_writing.proofs.judge.Statement.{statement}
 use Rattle.header_writing.proofs.judge.Tie as tie
 
