@@ -7,7 +7,7 @@ ghost use Rattle.aes_tables.specs.SBox.{ByTables};
 ghost use Rattle.aes.specs.Cipher.{cipher, inv_cipher, through_cipher};
 
 // Which way a block goes through the cipher.
-#[derive(Drop)]
+#[derive(Clone, Copy)]
 pub enum Direction {
     Encipher,
     Decipher,

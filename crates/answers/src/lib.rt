@@ -5,7 +5,7 @@ ghost use Rattle.std.specs.Prelude.{◌≡◌};
 ghost use Rattle.answers.specs.Answers.{answer_refusal, placement_refusal, written_refusal, locked_after};
 
 // Accepted, or a refusal number, or one with the first user sector that is in the way.
-#[derive(Drop)]
+#[derive(Clone, Copy)]
 pub enum Answer {
     Accepted,
     Refused(u8),
@@ -13,7 +13,7 @@ pub enum Answer {
 }
 
 // The offset in the host of a call's first byte, or the call's refusal.
-#[derive(Drop)]
+#[derive(Clone, Copy)]
 pub enum Placement {
     Offset(u64),
     Refused(u8),
@@ -21,14 +21,14 @@ pub enum Placement {
 }
 
 // A number, such as a sector's, a tweak's or an offset, or a refusal number.
-#[derive(Drop)]
+#[derive(Clone, Copy)]
 pub enum Numbered {
     Number(u64),
     Refused(u8),
 }
 
 // The header is written, or a refusal number.
-#[derive(Drop)]
+#[derive(Clone, Copy)]
 pub enum Written {
     Done,
     Refused(u8),

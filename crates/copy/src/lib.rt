@@ -36,9 +36,9 @@ fn copy_all(from: &[u8], to: &mut [u8])
 // Where the chunk that starts here ends: CHUNK_SIZE further on, or with the last byte.
 fn chunk_end(start: usize, size: usize) -> usize
     requires { start < size }
-    ensures lower_bound { start < result }
-    ensures upper_bound { result ≤ size }
-    ensures upper_bound_2 { result ≤ start + 65536 }
+    ensures after_start { start < result }
+    ensures within { result ≤ size }
+    ensures of_one_chunk { result ≤ start + 65536 }
 {
     if size - start < CHUNK_SIZE {
         size
@@ -49,12 +49,12 @@ fn chunk_end(start: usize, size: usize) -> usize
 
 // Of two copies by way of a local the compiler makes one move, and of a single one a slower loop.
 fn copy_chunk(from: &[u8], to: &mut [u8])
-    requires from_len_bound { length from.now ≤ 65536 }
-    requires to_len { length to.old ≡ length from.now }
+    requires of_one_chunk { length from.now ≤ 65536 }
+    requires same_length { length to.old ≡ length from.now }
     ensures { to.new ≡ from.now }
 {
     let mut local = [0u8; CHUNK_SIZE];
-    bytes::copy(from, &mut local);
     let size = from.len();
-    bytes::copy(&local[..size], to);
+    local[..size].copy_from_slice(from);
+    to.copy_from_slice(&local[..size]);
 }

@@ -4,14 +4,14 @@ ghost use Rattle.std.specs.Prelude.{◌≡◌, ◌+◌, leb};
 ghost use Rattle.extent.specs.Extents.{has, larger, overlap, beyond};
 
 // So many sectors from the first one on. A caller may make one up, and its end may lie past 2^64.
-#[derive(Drop)]
+#[derive(Clone, Copy)]
 pub struct Extent {
     pub first: u64,
     pub count: u64,
 }
 
 // What an extent has in its way: nothing, or something, of which this sector is the first.
-#[derive(Drop)]
+#[derive(Clone, Copy)]
 pub enum Overlap {
     Apart,
     From(u64),

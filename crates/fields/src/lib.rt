@@ -4,7 +4,7 @@ ghost use Rattle.std.specs.Prelude.{◌≡◌, min};
 ghost use Rattle.fields.specs.Bytes.{field_part};
 
 // Where a field stands in its bytes.
-#[derive(Drop)]
+#[derive(Clone, Copy)]
 pub struct Field {
     pub offset: usize,
     pub size: usize,

@@ -27,7 +27,7 @@ pub const TRUE: u64 = 1;
 const NEITHER: u64 = 2;
 
 // The numbers of a header (RULES.md, Header bytes), with the rules' letters behind them.
-#[derive(Drop)]
+#[derive(Clone, Copy)]
 pub struct Fields {
     pub version: u64,
     pub min_program_version: u64,

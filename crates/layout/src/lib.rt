@@ -21,7 +21,7 @@ pub const MAX_HOST_SIZE: u64 = 1_125_899_906_842_624;
 
 // A volume's place in its host, as its header and the host's size tell it (RULES.md, Opening), with
 // the rules' letters behind the names. A caller may make one up: nothing is assumed of the numbers.
-#[derive(Drop)]
+#[derive(Clone, Copy)]
 pub struct Layout {
     pub host_size: u64, // S
     pub kind: u64, // 0 standard, 1 hidden
@@ -35,7 +35,7 @@ pub struct Layout {
 }
 
 // A layout, or a refusal number.
-#[derive(Drop)]
+#[derive(Clone, Copy)]
 pub enum Opened {
     Accepted(Layout),
     Refused(u8),

@@ -9,14 +9,14 @@ use answers::Numbered;
 pub const MAX_CODE: u8 = 3;
 
 // The end of the host that a distance counts from.
-#[derive(Drop)]
+#[derive(Clone, Copy)]
 pub enum Origin {
     HostStart,
     HostEnd,
 }
 
 // A header location (RULES.md, Header locations), and the kind of volume that a header there makes.
-#[derive(Drop)]
+#[derive(Clone, Copy)]
 pub struct Location {
     pub distance: u64,
     pub origin: Origin,

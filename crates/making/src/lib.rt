@@ -9,7 +9,7 @@ use protection::Protection;
 use view::View;
 
 // A view, or a refusal number.
-#[derive(Drop)]
+#[derive(Clone, Copy)]
 pub enum Viewed {
     Made(View),
     Refused(u8),

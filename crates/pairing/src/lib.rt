@@ -6,7 +6,7 @@ ghost use Rattle.pairing.specs.Pairs.{nests, paired};
 use layout::Layout;
 
 // Whether a hidden volume can be protected in an outer one, or a refusal number.
-#[derive(Drop)]
+#[derive(Clone, Copy)]
 pub enum Pairing {
     Nested,
     Refused(u8),

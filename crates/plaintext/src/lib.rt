@@ -16,14 +16,14 @@ use view::View;
 
 // A view and the key of its volume, which it keeps: 32 bytes for the data, then 32 for the tweak. A
 // caller may make one up: nothing is assumed of it.
-#[derive(Drop)]
+#[derive(Clone, Copy)]
 pub struct KeyedView {
     pub view: View,
     pub key: [u8; 64],
 }
 
 // The view with its key, handed back, and the answer.
-#[derive(Drop)]
+#[derive(Clone, Copy)]
 pub struct KeyedOutcome {
     pub keyed: KeyedView,
     pub answer: Answer,

@@ -8,7 +8,7 @@ use layout::{Layout, SECTOR_SIZE};
 
 // Nothing, or the bytes of the host from the first up to, not including, the second. A caller may make
 // one up: nothing is assumed of the numbers.
-#[derive(Drop)]
+#[derive(Clone, Copy)]
 pub enum Protection {
     Unprotected,
     Protected(u64, u64),

@@ -8,7 +8,7 @@ use answers::Numbered;
 use layout::Layout;
 
 // A tweak's number, or the refusal, and its block: sixteen zeros where it is refused.
-#[derive(Drop)]
+#[derive(Clone, Copy)]
 pub struct Tweak {
     pub number: Numbered,
     pub block: [u8; 16],

@@ -9,7 +9,7 @@ use protection::Protection;
 
 // A volume to read and write: its layout, what its writes may not touch, and the write lock. A caller
 // may make one up: nothing is assumed of it.
-#[derive(Drop)]
+#[derive(Clone, Copy)]
 pub struct View {
     pub layout: Layout,
     pub protection: Protection,
@@ -17,14 +17,14 @@ pub struct View {
 }
 
 // The view handed back, and the answer.
-#[derive(Drop)]
+#[derive(Clone, Copy)]
 pub struct Outcome {
     pub view: View,
     pub answer: Answer,
 }
 
 // The view handed back, and where a call finds its bytes, or its refusal.
-#[derive(Drop)]
+#[derive(Clone, Copy)]
 pub struct Placed {
     pub view: View,
     pub placement: Placement,

@@ -27,7 +27,7 @@ fn half(bytes: &[u8]) -> [u8; 32]
     ensures { result ≡ bytes.now }
 {
     let mut key = [0u8; 32];
-    bytes::copy(bytes, &mut key);
+    key.copy_from_slice(bytes);
     key
 }
 
