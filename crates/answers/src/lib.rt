@@ -1,6 +1,8 @@
 // Answers with nothing in them but numbers (RULES.md, Refusals): of a read or a write, of where it finds its
 // bytes, of a call that gives a number, and of one that writes a header.
 // Assumes nothing; no function has a `requires`.
+#![tactic(auto)]
+
 ghost use Rattle.std.specs.Prelude.{◌≡◌};
 ghost use Rattle.answers.specs.Answers.{answer_refusal, placement_refusal, written_refusal, locked_after};
 

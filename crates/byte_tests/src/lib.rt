@@ -1,5 +1,7 @@
 // Tests of bytes: whether two slices hold the same, and whether all are zero.
 // Assumes nothing; no function has a `requires`.
+#![tactic(auto)]
+
 ghost use Rattle.std.specs.Prelude.{◌≡◌};
 ghost use Rattle.byte_tests.specs.Tests.{same_bytes, all_zero};
 

@@ -1,5 +1,7 @@
 // Extents, runs of sectors with a first one and a count: the least sector that two of them share, and the first
 // of one that lies past an end. No sum is made, so nothing wraps. Assumes nothing; no function has a `requires`.
+#![tactic(auto)]
+
 ghost use Rattle.std.specs.Prelude.{◌≡◌, ◌+◌, leb};
 ghost use Rattle.extent.specs.Extents.{has, larger, overlap, beyond};
 

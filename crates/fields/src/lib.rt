@@ -1,5 +1,7 @@
 // Fields of bytes: where one stands, and its bytes.
 // Assumes nothing; no function has a `requires`.
+#![tactic(auto)]
+
 ghost use Rattle.std.specs.Prelude.{◌≡◌, min};
 ghost use Rattle.fields.specs.Bytes.{field_part};
 

@@ -1,5 +1,7 @@
 // Where a volume lies in its host: the layout that opening gives, and the rules that a host's size
 // and a data area keep. Assumes nothing; no function has a `requires`.
+#![tactic(auto)]
+
 ghost use Rattle.std.specs.Prelude.{◌≡◌};
 ghost use Rattle.layout.specs.Opened.{opened_refusal};
 ghost use Rattle.layout.specs.Rules.{host_size_rule, sector_size_rule, place_rule, sectors_rule, data_area_rule, sound};

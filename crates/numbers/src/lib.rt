@@ -1,6 +1,7 @@
 // Numbers of any count of bytes, big-endian and little-endian.
 // Assumes nothing; no function has a `requires`.
 #![tactic(auto)]
+
 ghost use Rattle.std.specs.Prelude.{◌≡◌, length};
 ghost use Rattle.numbers.specs.Numbers.{big_endian};
 ghost use Rattle.numbers.specs.Numbers.{little_endian, ReadAs};

@@ -1,0 +1,15 @@
+-- `numbers::read_big_endian` meets its contract. The loop's invariant: the number is what the bytes passed spell, modulo 2^64.
+use Prim.Native.Nat.{ℕ, ◌-◌, ◌%◌, ◌^◌, ◌≤◌}
+use mathlib.Core.{Path.◌≡◌, List.List}
+use native.Mathlib.Omega.{arith}
+use borrow.Author.Rules.{rules}
+use lib.{ListN.{length, take}, Seq.take_all}
+use Rattle.numbers.specs.Numbers.{big_endian, big_endian_from}
+use Rattle.numbers.proofs.NumbersLaws.{big_endian_take, big_endian_lt, read_as}
+use Rattle.numbers.proofs.read_big_endian.Given as goal
+
+abbrev pub invariant-loop-i : goal.invariant-loop-i
+invariant-loop-i l = (l.i ≤ length l.bytes) × (l.number ≡ big_endian (take l.i l.bytes) % 2 ^ 64)
+
+abbrev pub decreases-loop-i : goal.decreases-loop-i
+decreases-loop-i l = length l.bytes - l.i
