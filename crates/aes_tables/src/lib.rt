@@ -1,5 +1,7 @@
 // The S-box of AES and its inverse (FIPS 197), as tables to look bytes up in.
 // Assumes nothing; no public function has a `requires`.
+#![tactic(auto)]
+
 ghost use Rattle.std.specs.Prelude.{◌≡◌};
 ghost use Rattle.aes_tables.specs.SBox.{cipher_tables};
 

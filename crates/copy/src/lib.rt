@@ -1,5 +1,7 @@
 // Bytes laid over others, whatever their count: a buffer into an image, a field into a header. No sector is known here.
 // Assumes nothing; no public function has a `requires`.
+#![tactic(auto)]
+
 ghost use Rattle.std.specs.Prelude.{◌≡◌, ◌+◌, ◌<◌, ◌≤◌, length};
 ghost use Rattle.copy.specs.Copy.{copied};
 

@@ -1,5 +1,7 @@
 // CRC-32 of ITU-T V.42, computed four bytes at a time by four tables of 256 entries.
 // Assumes nothing; no public function has a `requires`.
+#![tactic(auto)]
+
 ghost use Rattle.std.specs.Prelude.{◌≡◌, [], ◌∷◌, ◌+◌, ◌%◌, ◌≤◌, ◌<◌, length, take, drop};
 ghost use Rattle.bits.specs.Bits.{Bytes};
 ghost use Rattle.numbers.specs.Numbers.{little_endian};

@@ -1,5 +1,7 @@
 // The format of a header: its fields and their places, its magics and their versions.
 // Assumes nothing; no public function has a `requires`.
+#![tactic(auto)]
+
 ghost use Rattle.std.specs.Prelude.{◌≡◌};
 ghost use Rattle.header_format.specs.Format.{magic_number, version_rule, new_lengths_rule};
 

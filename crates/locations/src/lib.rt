@@ -1,5 +1,7 @@
 // Where the headers of a volume lie in its host, and the kind of volume that each makes.
 // Assumes nothing; no function has a `requires`.
+#![tactic(auto)]
+
 ghost use Rattle.std.specs.Prelude.{◌≡◌};
 ghost use Rattle.locations.specs.Locations.{located};
 

@@ -1,5 +1,7 @@
 // Numbers spelt in bytes, big-endian and little-endian.
 // Assumes nothing; no function has a `requires`.
+#![tactic(auto)]
+
 ghost use Rattle.std.specs.Prelude.{◌≡◌, length};
 ghost use Rattle.numbers.specs.Numbers.{big_endian_bytes, little_endian_bytes};
 

@@ -1,5 +1,7 @@
 // What a view's writes may not touch: the rule for a protected range, and its user sectors. No sum is made
 // that could wrap. Assumes nothing; no function has a `requires`.
+#![tactic(auto)]
+
 ghost use Rattle.std.specs.Prelude.{◌≡◌, ◌-◌};
 ghost use Rattle.protection.specs.Protection.{protection_rule, sound_protection, protected_extent};
 

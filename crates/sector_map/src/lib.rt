@@ -2,6 +2,8 @@
 // 512 bytes. Every call takes a layout that
 // anybody may have made up, and refuses 11 where it is not sound, then 16 where a sector is not the
 // volume's. Assumes nothing; no function has a `requires`.
+#![tactic(auto)]
+
 ghost use Rattle.std.specs.Prelude.{◌≡◌};
 ghost use Rattle.sector_map.specs.SectorMap.{sector_count, host_sector, user_sector};
 

@@ -1,0 +1,6 @@
+-- `crc32::checksum` meets its contract: it is the sum by the tables.
+use borrow.Author.Rules.{rules}
+use Rattle.crc32.proofs.checksum.Goals as goal
+
+pub returns : goal.returns
+returns c = c.sum.ensures
