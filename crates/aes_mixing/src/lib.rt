@@ -1,5 +1,7 @@
 // The columns of a block mixed (FIPS 197): sums of products in the field, which are made of doublings.
 // Assumes nothing; no public function has a `requires`.
+#![tactic(auto)]
+
 ghost use Rattle.std.specs.Prelude.{◌≡◌};
 ghost use Rattle.aes_tables.specs.Field.{product, times_x};
 ghost use Rattle.aes_mixing.specs.Mixing.{mixed, mixed_word, mix_columns, inv_mix_columns};

@@ -1,6 +1,8 @@
 // What AES does to a word of four bytes: its bytes through the S-box, by look-up, and sums of words.
 // The tables that a function borrows are to be those of `aes_tables`: with others its answer is left free.
 // Assumes nothing; no public function has a `requires`.
+#![tactic(auto)]
+
 ghost use Rattle.std.specs.Prelude.{◌≡◌};
 ghost use Rattle.aes_tables.specs.SBox.{substituted, restored, ByTables};
 ghost use Rattle.aes_words.specs.Words.{each_byte, sub_word, add_word};

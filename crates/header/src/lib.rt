@@ -1,5 +1,7 @@
 // The 512 bytes of a deciphered header: whether they are one, and the first rule that they break.
 // Assumes nothing; no public function has a `requires`.
+#![tactic(auto)]
+
 ghost use Rattle.std.specs.Prelude.{true, ◌≡◌, ◌≤◌};
 ghost use Rattle.fields.specs.Bytes.{field_part};
 ghost use Rattle.numbers.specs.Numbers.{big_endian};

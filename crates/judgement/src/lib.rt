@@ -1,6 +1,8 @@
 // Reads and writes of a volume's sectors, judged by lengths and numbers alone: the order of checks, and where
 // in the host an accepted call finds its bytes.
 // Assumes nothing; no public function has a `requires`.
+#![tactic(auto)]
+
 ghost use Rattle.std.specs.Prelude.{◌≡◌, true, ◌≤◌};
 ghost use Rattle.layout.specs.Rules.{sector_size_rule, sound};
 ghost use Rattle.sector_map.specs.SectorMap.{sectors};

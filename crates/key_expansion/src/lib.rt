@@ -1,6 +1,8 @@
 // The key expansion of AES for keys of 256 bits (FIPS 197): sixty words, and the fifteen round keys that they are.
 // The tables that a function borrows are to be those of `aes_tables`: with others its answer is left free.
 // Assumes nothing; no public function has a `requires`.
+#![tactic(auto)]
+
 ghost use Rattle.std.specs.Prelude.{◌≡◌, ◌<◌, ◌≤◌, take};
 ghost use Rattle.aes_tables.specs.SBox.{ByTables};
 ghost use Rattle.aes_words.specs.Words.{in_fours};

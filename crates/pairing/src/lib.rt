@@ -1,5 +1,7 @@
 // A hidden volume in an outer one: the rule for a pair. No sum is made that could wrap.
 // Assumes nothing; no function has a `requires`.
+#![tactic(auto)]
+
 ghost use Rattle.std.specs.Prelude.{◌≡◌, ◌+◌, leb};
 ghost use Rattle.pairing.specs.Pairs.{nests, paired};
 

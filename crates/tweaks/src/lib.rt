@@ -1,6 +1,8 @@
 // The tweaks of a volume's sectors: the number that each is enciphered with, and its block. Every call takes a layout that
 // anybody may have made up, and refuses as the sector map does.
 // Assumes nothing; no function has a `requires`.
+#![tactic(auto)]
+
 ghost use Rattle.std.specs.Prelude.{◌≡◌};
 ghost use Rattle.tweaks.specs.Tweaks.{tweak_number, tweak_of};
 

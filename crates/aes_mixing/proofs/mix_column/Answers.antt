@@ -1,0 +1,12 @@
+-- `aes_mixing::mix_column` meets its contract.
+use mathlib.Core.List.{[], ◌∷◌}
+use Rattle.bits.specs.Bits.{entries}
+use Rattle.aes_words.specs.Words.{word}
+use Rattle.aes_mixing.specs.Mixing.{mixed_word}
+use borrow.Author.Rules.{rules}
+use Rattle.aes_mixing.proofs.mix_column.Goals as goal
+
+pub returns : goal.returns
+unfolding mixed_word word entries
+returns c =
+    λ i. c.mix.ensures i ∷ c.mix-2.ensures i ∷ c.mix-3.ensures i ∷ c.mix-4.ensures i ∷ []

@@ -1,0 +1,15 @@
+-- `aes_mixing::times_11` meets its contract.
+use mathlib.Core.Path.{ap, ap₂, ◌∙◌}
+use lib.Bits.{bit_xor}
+use Rattle.aes_tables.specs.Field.{times_x}
+use Rattle.aes_mixing.proofs.FieldLaws.{product_11}
+use borrow.Author.Rules.{rules}
+use Rattle.aes_mixing.proofs.times_11.Goals as goal
+
+pub returns : goal.returns
+returns c =
+    let e2 = c.times_x-a2.ensures in
+    let e4 = c.times_x.ensures ∙ ap times_x e2 in
+    let e8 = c.times_x-a8.ensures ∙ ap times_x e4 in
+    let a = c.args.a in
+    ap (bit_xor a) (ap₂ bit_xor e2 e8) ∙ product_11 a

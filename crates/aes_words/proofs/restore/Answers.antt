@@ -1,0 +1,13 @@
+-- `aes_words::restore` meets its contract.
+use mathlib.Core.Path.{ap, ◌∙◌}
+use Prim.Native.Nat.{ℕ}
+use mathlib.Core.List.{List, []}
+use lib.ListN.{get_or}
+use Rattle.aes_tables.proofs.TableLaws.{restored_at}
+use borrow.Author.Rules.{rules}
+use Rattle.aes_words.proofs.restore.Goals as goal
+
+pub returns : goal.returns
+returns c tables =
+    let a = c.args in
+    ap (λ (t : List (List ℕ)). get_or (get_or t 1 []) a.byte 0) tables ∙ restored_at a.byte c.ranges.byte.fits

@@ -1,0 +1,17 @@
+-- `key_expansion::words` meets its contract. The loop's invariant: the first i words are grown from the first eight.
+use mathlib.Core.Path.{◌≡◌, refl, sym, ap, ap₂, ◌∙◌}
+use Prim.Native.Nat.{ℕ, ◌-◌, ◌≤◌}
+use native.Mathlib.Omega.{arith}
+use lib.{ListN.{length, take, length-set}, Seq.take_all}
+use Rattle.aes_tables.specs.SBox.{ByTables}
+use Rattle.aes_words.specs.Words.{add_word}
+use Rattle.key_expansion.specs.KeyExpansion.{grown}
+use Rattle.key_expansion.proofs.ExpansionLaws.{next_word_lem}
+use borrow.Author.Rules.{rules}
+use Rattle.key_expansion.proofs.words.Given as goal
+
+abbrev pub invariant-loop-i : goal.invariant-loop-i
+invariant-loop-i l = (8 ≤ l.i) × (l.i ≤ 60) × (length l.words ≡ 60) × ByTables l.tables (take l.i l.words ≡ grown (l.i - 8) (take 8 l.initial.words))
+
+abbrev pub decreases-loop-i : goal.decreases-loop-i
+decreases-loop-i l = 60 - l.i
