@@ -2,6 +2,8 @@
 // round keys pass by value.
 // The tables that a function borrows are to be those of `aes_tables`: with others its answer is left free.
 // Assumes nothing; no public function has a `requires`.
+#![tactic(auto)]
+
 ghost use Rattle.std.specs.Prelude.{◌≡◌};
 ghost use Rattle.aes_tables.specs.SBox.{ByTables};
 ghost use Rattle.aes_steps.specs.Blocks.{sub_bytes, inv_sub_bytes, shift_rows, inv_shift_rows, add_round_key};

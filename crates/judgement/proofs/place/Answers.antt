@@ -5,11 +5,13 @@ use Rattle.judgement.specs.Offsets.{placed_by}
 use Rattle.judgement.proofs.place.Goals as goal
 
 pub extent_start-requires : goal.extent_start-requires
-extent_start-requires c = c.requires c.in-Accepted.is
+extent_start-requires c =
+    let given = c.requires c.in-Accepted.is in
+    record { layout_value = given.0; first_bound = given.1 }
 
 pub returns-in-Accepted : goal.returns-in-Accepted
 unfolding placed_by
-returns-in-Accepted c = rw (c.in-Accepted.is, c.extent_start_lem.ensures) refl
+returns-in-Accepted c = rw (c.in-Accepted.is, c.extent_start.ensures) refl
 
 pub returns-in-Refused : goal.returns-in-Refused
 unfolding placed_by

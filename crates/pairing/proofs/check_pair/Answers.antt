@@ -1,5 +1,4 @@
 -- `pairing::check_pair` meets its contract: both layouts sound, then the two nested.
--- what the first two tests tell once they are passed
 use mathlib.Core.{Path.{◌≡◌, sym, ◌∙◌}, Bool.true}
 use borrow.Author.Rules.{rules}
 use borrow.Author.Tests.{not-true, not-false}
@@ -7,26 +6,20 @@ use Rattle.layout.specs.Rules.{sound}
 use Rattle.pairing.specs.Pairs.{paired}
 use Rattle.pairing.proofs.check_pair.Goals as goal
 
-outer-sound : (c : goal.Else-not-is_sound) → sound c.args.outer ≡ true
-outer-sound c = sym c.is_sound.ensures ∙ c.if-not-is_sound.false
-
-hidden-sound : (c : goal.Else-not-is_sound-2) → sound c.args.hidden ≡ true
-hidden-sound c = sym c.is_sound-2.ensures ∙ c.if-not-is_sound-2.false
-
 pub returns-then-not-is_sound : goal.returns-then-not-is_sound
 unfolding paired
 returns-then-not-is_sound c = simp (sym c.is_sound.ensures ∙ c.if-not-is_sound.true)
 
 pub returns-then-not-is_sound-2 : goal.returns-then-not-is_sound-2
 unfolding paired
-returns-then-not-is_sound-2 c = simp (outer-sound c.before.before, sym c.is_sound-2.ensures ∙ c.if-not-is_sound-2.true)
+returns-then-not-is_sound-2 c = simp (sym c.is_sound.ensures ∙ c.if-not-is_sound.false, sym c.is_sound-2.ensures ∙ c.if-not-is_sound-2.true)
 
 pub returns-then-not-do_nest : goal.returns-then-not-do_nest
 unfolding paired
 returns-then-not-do_nest c =
-    simp (outer-sound c.before.before, hidden-sound c, sym c.do_nest.ensures ∙ c.if-not-do_nest.true)
+    simp (sym c.is_sound.ensures ∙ c.if-not-is_sound.false, sym c.is_sound-2.ensures ∙ c.if-not-is_sound-2.false, sym c.do_nest.ensures ∙ c.if-not-do_nest.true)
 
 pub returns : goal.returns
 unfolding paired
 returns c =
-    simp (outer-sound c.before.before, hidden-sound c, sym c.do_nest.ensures ∙ c.if-not-do_nest.false)
+    simp (sym c.is_sound.ensures ∙ c.if-not-is_sound.false, sym c.is_sound-2.ensures ∙ c.if-not-is_sound-2.false, sym c.do_nest.ensures ∙ c.if-not-do_nest.false)

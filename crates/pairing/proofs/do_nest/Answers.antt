@@ -32,32 +32,25 @@ returns-then-outer-hidden-2 c =
       ne_eqb _ _ c.if-outer-hidden-2.true,
     )
 
--- past the first four tests the pair is of one disk
-abbrev third : goal.Else-outer-hidden-2 → goal.Else-outer-hidden
-third c = c.before.before.before
-
-abbrev second : goal.Else-outer-hidden-2 → goal.Else-hidden-ne-HIDDEN
-second c = (third c).before.before.before
-
-one-disk : (c : goal.Else-outer-hidden-2)
-    → let a = (second c).args in
-    (eqb a.outer.kind standard ≡ true)
-    × (eqb a.hidden.kind hidden ≡ true)
-    × (eqb a.outer.host_size a.hidden.host_size ≡ true)
-    × (eqb a.outer.sector_size a.hidden.sector_size ≡ true)
-one-disk c =
-    let two = second c in
-    (eq-eqb _ _ two.if-outer-ne-STANDARD.left, eq-eqb _ _ two.if-hidden-ne-HIDDEN.left, eq-eqb _ _ (third c).if-outer-hidden.false, eq-eqb _ _ c.if-outer-hidden-2.false)
-
 pub returns-then-hidden-outer : goal.returns-then-hidden-outer
 unfolding nests
 returns-then-hidden-outer c =
-    let one = one-disk c.before.before.before in
-    simp (one.0, one.1, one.2, one.3, lt-leb _ _ c.if-hidden-outer.true)
+    simp (
+      eq-eqb _ _ c.if-outer-ne-STANDARD.false,
+      eq-eqb _ _ c.if-hidden-ne-HIDDEN.false,
+      eq-eqb _ _ c.if-outer-hidden.false,
+      eq-eqb _ _ c.if-outer-hidden-2.false,
+      lt-leb _ _ c.if-hidden-outer.true,
+    )
 
 pub returns : goal.returns
 unfolding nests area_end
 returns c =
-    let one = one-disk c.before.before.before in
-    simp (one.0, one.1, one.2, one.3, le-leb _ _ c.if-hidden-outer.false)
-    (c.fits2.ensures ∙ leb_sub_add _ _ _ _ c.if-hidden-outer.false)
+    simp (
+      eq-eqb _ _ c.if-outer-ne-STANDARD.false,
+      eq-eqb _ _ c.if-hidden-ne-HIDDEN.false,
+      eq-eqb _ _ c.if-outer-hidden.false,
+      eq-eqb _ _ c.if-outer-hidden-2.false,
+      le-leb _ _ c.if-hidden-outer.false,
+    )
+    (c.fits.ensures ∙ leb_sub_add _ _ _ _ c.if-hidden-outer.false)
