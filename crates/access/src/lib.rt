@@ -1,6 +1,8 @@
 // Reads and writes of a volume's sectors in its host's image: each is judged, and an accepted one moves its
 // bytes. Data is already enciphered.
 // Assumes nothing; no public function has a `requires`.
+#![tactic(auto)]
+
 ghost use Rattle.std.specs.Prelude.{◌≡◌, ◌+◌, ◌≤◌, length, take, drop};
 ghost use Rattle.fields.specs.Bytes.{overlay};
 ghost use Rattle.judgement.specs.Judging.{read_answer, write_answer};

@@ -2,6 +2,8 @@
 // bytes; blocks and the fifteen round keys pass by value.
 // The tables that a function borrows are to be those of `aes_tables`: with others its answer is left free.
 // Assumes nothing; no public function has a `requires`.
+#![tactic(auto)]
+
 ghost use Rattle.std.specs.Prelude.{◌≡◌};
 ghost use Rattle.aes_tables.specs.SBox.{ByTables};
 ghost use Rattle.aes.specs.Cipher.{cipher, inv_cipher, through_cipher};

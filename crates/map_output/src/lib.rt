@@ -1,5 +1,7 @@
 // The map program's output: the ten lines of a layout, or the one line of a refusal, put into a buffer.
 // Assumes nothing; no public function has a `requires`.
+#![tactic(auto)]
+
 ghost use Rattle.std.specs.Prelude.{◌≡◌, ◌+◌, ◌*◌, ◌%◌, ◌≤◌, length};
 ghost use Rattle.map_output.specs.Decimal.{Spelled};
 ghost use Rattle.map_output.specs.MapOutput.{text_line, number_line, either_line, magic_line, kind_line, line_room};

@@ -1,5 +1,7 @@
 // A new header: its 512 bytes, laid field by field from a layout, a salt and keys.
 // Assumes nothing; no public function has a `requires`.
+#![tactic(auto)]
+
 ghost use Rattle.std.specs.Prelude.{◌≡◌, ◌+◌, ◌≤◌, length, replicate};
 ghost use Rattle.fields.specs.Bytes.{overlay};
 ghost use Rattle.numbers.specs.Numbers.{big_endian_bytes};

@@ -1,5 +1,7 @@
 // Opening a volume: which of the candidates is accepted.
 // Assumes nothing; no public function has a `requires`.
+#![tactic(auto)]
+
 ghost use Rattle.std.specs.Prelude.{◌≡◌, true, ◌&&◌, ◌*◌, ◌≤◌, length};
 ghost use Rattle.layout.specs.declared.Opened.TheVariants.{Refused};
 ghost use Rattle.locations.specs.Locations.{code_rule};

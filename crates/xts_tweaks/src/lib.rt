@@ -1,5 +1,7 @@
 // The tweaks of a unit's blocks in XTS (IEEE 1619): each is α times the one before.
 // Assumes nothing; no public function has a `requires`.
+#![tactic(auto)]
+
 ghost use Rattle.std.specs.Prelude.{◌≡◌, ◌*◌, ◌/◌};
 ghost use Rattle.xts_tweaks.specs.Tweaks.{raised_word, times_alpha};
 

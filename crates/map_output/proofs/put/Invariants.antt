@@ -1,0 +1,14 @@
+-- `map_output::put` meets its contract. The loop's invariant: the bytes passed are copied.
+use Prim.Native.Nat.{ℕ, ◌+◌, ◌-◌, ◌≤◌, ◌<◌}
+use mathlib.Core.{Path.{◌≡◌, sym, ap, ◌∙◌}, List.{List, ◌++◌}}
+use native.Mathlib.Numerals.{add-one}
+use native.Mathlib.Omega.{arith}
+use borrow.Author.Rules.{rules}
+use lib.{ListN.{length, take, drop, set, get_or, length-set}, Seq.{paste, paste-zero, paste-suc, take_all}}
+use Rattle.map_output.proofs.put.Given as goal
+
+abbrev pub invariant-loop-i : goal.invariant-loop-i
+invariant-loop-i l = (l.i ≤ length l.bytes) × (length l.out ≡ length l.initial.out) × (l.out ≡ paste l.initial.out l.at l.bytes l.i)
+
+abbrev pub decreases-loop-i : goal.decreases-loop-i
+decreases-loop-i l = length l.bytes - l.i

@@ -1,0 +1,9 @@
+-- `new_header::put` meets its contract.
+use mathlib.Core.Path.{◌∙◌}
+use borrow.Author.Rules.{rules}
+use Rattle.copy.proofs.CopyLaws.{copied_fits}
+use Rattle.new_header.proofs.put.Goals as goal
+
+pub returns : goal.returns
+returns c =
+    c.lay.ensures ∙ copied_fits _ _ _ c.requires
