@@ -1,5 +1,7 @@
 // Writing a header: 512 deciphered bytes that opening accepts, from a volume's numbers, its salt and its keys.
 // Assumes nothing; no public function has a `requires`.
+#![tactic(auto)]
+
 ghost use Rattle.std.specs.Prelude.{◌≡◌, length};
 ghost use Rattle.locations.specs.Locations.{location_of};
 ghost use Rattle.header_writing.specs.HeaderWriting.{asked_layout, header_answer, header_left};

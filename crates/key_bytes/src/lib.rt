@@ -1,5 +1,7 @@
 // The key bytes of the candidate that opening accepts.
 // Assumes nothing; no public function has a `requires`.
+#![tactic(auto)]
+
 ghost use Rattle.opening.specs.Opening.{opened};
 ghost use Rattle.key_bytes.specs.KeyBytes.{KeyBytes};
 

@@ -1,5 +1,7 @@
 // The map program's input: the host's size, a location code and one candidate.
 // Assumes nothing; no function has a `requires`.
+#![tactic(auto)]
+
 ghost use Rattle.std.specs.Prelude.{◌≡◌};
 ghost use Rattle.map_input.specs.MapInput.{opened_input};
 

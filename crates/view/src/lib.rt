@@ -1,5 +1,7 @@
 // Views of a volume: reads and writes on one, and where these find their bytes. Data is already enciphered.
 // Assumes nothing; no function has a `requires`.
+#![tactic(auto)]
+
 ghost use Rattle.std.specs.Prelude.{◌≡◌};
 ghost use Rattle.view.specs.Outcomes.{read_placed, write_placed, ReadPost, WritePost};
 

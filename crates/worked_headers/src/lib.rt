@@ -1,1 +1,3 @@
 // No code: the worked cases of opening, computed. Assumes nothing.
+
+#![tactic(auto)]

@@ -1,6 +1,8 @@
 // XTS-AES-256 (IEEE 1619) on units of 512 bytes. A key passes by value, 64 bytes: its first half is for the
 // data, its second for the tweaks. The tables are taken once for a call, and borrowed from there.
 // Assumes nothing; no public function has a `requires`.
+#![tactic(auto)]
+
 ghost use Rattle.std.specs.Prelude.{◌≡◌, ◌+◌, ◌/◌, ◌%◌, ◌^◌, ◌<◌, length};
 ghost use Rattle.aes_tables.specs.SBox.{cipher_tables};
 ghost use Rattle.aes.specs.Cipher.{through_cipher};
