@@ -1,6 +1,8 @@
 // The writing of headers, over numbers and slices: it returns 0 where the header is written, and else the
 // refusal number and changes nothing.
 // Assumes nothing; no public function has a `requires`.
+#![tactic(auto)]
+
 ghost use Rattle.std.specs.Prelude.{◌≡◌, length};
 ghost use Rattle.answers.specs.Answers.{written_refusal};
 ghost use Rattle.header_writing.specs.HeaderWriting.{asked_layout, header_answer, header_left};

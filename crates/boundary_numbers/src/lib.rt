@@ -2,6 +2,8 @@
 // where an answer holds one. Where an answer is stored its refusal number is returned, 0 for an
 // acceptance, and a refusal changes nothing.
 // Assumes nothing; no public function has a `requires`.
+#![tactic(auto)]
+
 ghost use Rattle.std.specs.Prelude.{◌≡◌, ◌++◌, ◌≤◌, length, drop};
 ghost use Rattle.layout.specs.Opened.{opened_refusal};
 ghost use Rattle.making.specs.Views.{viewed_refusal};

@@ -1,5 +1,7 @@
 // Units enciphered and deciphered in their place, with a borrowed key.
 // Assumes nothing; no public function has a `requires`.
+#![tactic(auto)]
+
 ghost use Rattle.std.specs.Prelude.{◌≡◌};
 ghost use Rattle.xts.specs.Units.{enciphered, deciphered};
 

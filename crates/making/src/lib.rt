@@ -1,5 +1,7 @@
 // How a view of a volume is made: alone, or with a hidden volume protected.
 // Assumes nothing; no function has a `requires`.
+#![tactic(auto)]
+
 ghost use Rattle.std.specs.Prelude.{◌≡◌};
 ghost use Rattle.making.specs.Views.{plain_view, protected_view};
 

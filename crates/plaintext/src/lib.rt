@@ -2,6 +2,8 @@
 // enciphered, sector by sector (AES-256 in XTS), with the host sector's number for a tweak. They are judged as
 // raw reads and writes are. Plaintext is never in the image, not even for a moment.
 // Assumes nothing; no public function has a `requires`.
+#![tactic(auto)]
+
 ghost use Rattle.std.specs.Prelude.{◌≡◌, ◌+◌, ◌/◌, ◌%◌, ◌≤◌, length, take, drop};
 ghost use Rattle.fields.specs.Bytes.{overlay};
 ghost use Rattle.judgement.specs.Judging.{read_answer, write_answer};

@@ -1,0 +1,6 @@
+-- `boundary_numbers::layout_from` meets its contract.
+use borrow.Author.Rules.{rules}
+use Rattle.boundary_numbers.proofs.layout_from.Goals as goal
+
+pub returns : goal.returns
+returns c = c.read_layout.ensures
