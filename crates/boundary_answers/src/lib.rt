@@ -2,6 +2,8 @@
 // the refusal number. A refusal changes nothing, but that 16 and 18 store the first user sector in the way, and 18
 // closes the view's lock.
 // Assumes nothing; no public function has a `requires`.
+#![tactic(auto)]
+
 ghost use Rattle.std.specs.Prelude.{◌≡◌};
 ghost use Rattle.answers.specs.Answers.{numbered_refusal};
 ghost use Rattle.boundary_answers.specs.BoundaryAnswers.{numbered_left, view_left, Tells};

@@ -1,6 +1,8 @@
 // Where reads and writes on a view find their bytes, over numbers: each returns what the read or the write of such
 // sizes does, and stores the offset where that accepts, or the sector in the way.
 // Assumes nothing; no public function has a `requires`.
+#![tactic(auto)]
+
 ghost use Rattle.std.specs.Prelude.{◌≡◌};
 ghost use Rattle.answers.specs.Answers.{placement_refusal, placement_sector};
 ghost use Rattle.boundary_answers.specs.BoundaryAnswers.{sector_left};

@@ -1,6 +1,8 @@
 // The key bytes of an opening, over numbers and slices: returns 0 where it accepts, and else the refusal number and
 // changes nothing.
 // Assumes nothing; no public function has a `requires`.
+#![tactic(auto)]
+
 ghost use Rattle.std.specs.Prelude.{◌≡◌, ◌≤◌};
 ghost use Rattle.layout.specs.Opened.{opened_refusal};
 ghost use Rattle.opening.specs.Opening.{opened};

@@ -1,6 +1,8 @@
 // The sector map and its tweaks, over numbers and slices: each returns 0 where it accepts, and else the
 // refusal number and changes nothing.
 // Assumes nothing; no public function has a `requires`.
+#![tactic(auto)]
+
 ghost use Rattle.std.specs.Prelude.{◌≡◌};
 ghost use Rattle.answers.specs.Answers.{numbered_refusal};
 ghost use Rattle.sector_map.specs.SectorMap.{host_sector, user_sector};

@@ -1,6 +1,8 @@
 // Header locations and the opening, over numbers and slices: each returns 0 where it
 // accepts, and else the refusal number and changes nothing.
 // Assumes nothing; no public function has a `requires`.
+#![tactic(auto)]
+
 ghost use Rattle.std.specs.Prelude.{◌≡◌};
 ghost use Rattle.answers.specs.Answers.{numbered_refusal};
 ghost use Rattle.layout.specs.Opened.{opened_refusal};

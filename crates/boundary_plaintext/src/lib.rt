@@ -1,6 +1,8 @@
 // Reads and writes of plaintext on a view with a borrowed key, over numbers and slices: answers, sectors and locks
 // as those of raw ones.
 // Assumes nothing; no public function has a `requires`.
+#![tactic(auto)]
+
 ghost use Rattle.boundary_plaintext.specs.BoundaryPlaintext.{PlainReadCall, PlainWriteCall};
 
 use boundary_answers::{give_answer, lock_after};

@@ -1,6 +1,8 @@
 // The making of views, over numbers: each returns 0 where it accepts, and else the refusal number and
 // changes nothing.
 // Assumes nothing; no public function has a `requires`.
+#![tactic(auto)]
+
 ghost use Rattle.std.specs.Prelude.{◌≡◌};
 ghost use Rattle.making.specs.Views.{plain_view, protected_view, viewed_refusal};
 ghost use Rattle.boundary_numbers.specs.BoundaryNumbers.{layout_from, viewed_left};
