@@ -1,4 +1,4 @@
--- `guarantees::demands` meets its contract: every claim has its proof. Assumes nothing.
+-- `guarantees::demands` meets its contract: every claim has its proof.
 use Rattle.access_claims.proofs.Access.{accesses_by_table}
 use Rattle.guarantees.proofs.Boundary.{tells_numbers, returns_zero, orders_numbers, stores_answers}
 use Rattle.guarantees.proofs.BoundaryRuns.{carries_runs, begins_runs}
@@ -21,10 +21,9 @@ use Rattle.header_claims.proofs.SectorMap.{maps_exactly, opened_sound_lem}
 use Rattle.access_claims.proofs.Views.{makes_views}
 use Rattle.header_claims.proofs.WritesAgain.{writes_again}
 use Rattle.header_claims.proofs.WritesExactly.{writes_exactly}
-use Rattle.guarantees.proofs.demands.Statement.{statement}
-use Rattle.guarantees.proofs.demands.Tie as tie
+use Rattle.guarantees.proofs.demands.Goals as goal
 
-returns : tie.Need-returns
+pub returns : goal.returns
 returns c =
     record {
       numbers = spells_numbers;
@@ -67,6 +66,3 @@ returns c =
       output = prints_lines;
       at512 = same_at_512;
     }
-
-pub demands_spec : {M : Type 1} → statement M
-demands_spec = tie.close (tie.spec returns)
