@@ -1,9 +1,11 @@
-// The boundary for C and Rust: the exported functions, over numbers and slices. Each hands on to a function
-// of another crate that has the same contract. Every function but the checksum's and the two for one unit
-// returns 0 where it accepts, and else the refusal number. A refusal changes nothing that was passed for
+// The boundary for C and Rust, over numbers and slices: what the crate ondristela_c exports. Each function hands
+// on to a function of another crate that has the same contract. Every function but the checksum's and the two for
+// one unit returns 0 where it accepts, and else the refusal number. A refusal changes nothing that was passed for
 // writing, but that 16 and 18 of reads, writes and their extents store the first user sector in the way, and 18
 // closes the view's lock.
 // Assumes nothing; no public function has a `requires`.
+#![tactic(auto)]
+
 ghost use Rattle.std.specs.Prelude.{◌≡◌, length};
 ghost use Rattle.answers.specs.Answers.{numbered_refusal, written_refusal};
 ghost use Rattle.crc32.specs.Crc32.{crc32};
@@ -25,8 +27,7 @@ ghost use Rattle.boundary_plaintext.specs.BoundaryPlaintext.{PlainReadCall, Plai
 use boundary_numbers::{LAYOUT_SIZE, VIEW_SIZE};
 
 // Where the header of a location code lies in a host of this size.
-#[unsafe(no_mangle)]
-pub extern "C" fn ondristela_location(code: u8, host_size: u64, offset: &mut [u64; 1]) -> u64
+pub fn ondristela_location(code: u8, host_size: u64, offset: &mut [u64; 1]) -> u64
     ensures value { result ≡ numbered_refusal (located code host_size) }
     ensures offset_after { offset.new ≡ numbered_left (located code host_size) offset.old }
 {
@@ -35,8 +36,7 @@ pub extern "C" fn ondristela_location(code: u8, host_size: u64, offset: &mut [u6
 
 // The layout of the first candidate that is accepted. candidates holds deciphered headers of 512
 // bytes, codes a location code for each.
-#[unsafe(no_mangle)]
-pub extern "C" fn ondristela_open(
+pub fn ondristela_open(
     candidates: &[u8],
     codes: &[u8],
     host_size: u64,
@@ -49,13 +49,7 @@ pub extern "C" fn ondristela_open(
 }
 
 // Offset and length, within candidates, of the key bytes of the first candidate that is accepted.
-#[unsafe(no_mangle)]
-pub extern "C" fn ondristela_keys(
-    candidates: &[u8],
-    codes: &[u8],
-    host_size: u64,
-    range: &mut [u64; 2],
-) -> u64
+pub fn ondristela_keys(candidates: &[u8], codes: &[u8], host_size: u64, range: &mut [u64; 2]) -> u64
     ensures value { result ≡ opened_refusal (opened candidates.now codes.now host_size) }
     ensures range_after { range.new ≡ keys_left (opened candidates.now codes.now host_size) range.old }
 {
@@ -63,8 +57,7 @@ pub extern "C" fn ondristela_keys(
 }
 
 // Writes the header of a volume, for a location code and a host's size, over all of header.
-#[unsafe(no_mangle)]
-pub extern "C" fn ondristela_write_header(
+pub fn ondristela_write_header(
     magic: &[u8; 4],
     version: u16,
     min_program_version: u16,
@@ -96,12 +89,7 @@ pub extern "C" fn ondristela_write_header(
 }
 
 // The host sector that holds a user sector.
-#[unsafe(no_mangle)]
-pub extern "C" fn ondristela_host_sector(
-    layout: &[u64; LAYOUT_SIZE],
-    user: u64,
-    host: &mut [u64; 1],
-) -> u64
+pub fn ondristela_host_sector(layout: &[u64; LAYOUT_SIZE], user: u64, host: &mut [u64; 1]) -> u64
     ensures value { result ≡ numbered_refusal (host_sector (layout_from layout.now) user) }
     ensures host_after { host.new ≡ numbered_left (host_sector (layout_from layout.now) user) host.old }
 {
@@ -109,12 +97,7 @@ pub extern "C" fn ondristela_host_sector(
 }
 
 // The user sector that a host sector holds.
-#[unsafe(no_mangle)]
-pub extern "C" fn ondristela_user_sector(
-    layout: &[u64; LAYOUT_SIZE],
-    host: u64,
-    user: &mut [u64; 1],
-) -> u64
+pub fn ondristela_user_sector(layout: &[u64; LAYOUT_SIZE], host: u64, user: &mut [u64; 1]) -> u64
     ensures value { result ≡ numbered_refusal (user_sector (layout_from layout.now) host) }
     ensures user_after { user.new ≡ numbered_left (user_sector (layout_from layout.now) host) user.old }
 {
@@ -122,12 +105,7 @@ pub extern "C" fn ondristela_user_sector(
 }
 
 // The tweak block of a user sector.
-#[unsafe(no_mangle)]
-pub extern "C" fn ondristela_tweak(
-    layout: &[u64; LAYOUT_SIZE],
-    user: u64,
-    block: &mut [u8; 16],
-) -> u64
+pub fn ondristela_tweak(layout: &[u64; LAYOUT_SIZE], user: u64, block: &mut [u8; 16]) -> u64
     ensures value { result ≡ numbered_refusal (tweak_of (layout_from layout.now) user).number }
     ensures block_after { block.new ≡ block_left (tweak_of (layout_from layout.now) user).number (tweak_of (layout_from layout.now) user).block block.old }
 {
@@ -135,11 +113,7 @@ pub extern "C" fn ondristela_tweak(
 }
 
 // A view of a volume alone, its lock open.
-#[unsafe(no_mangle)]
-pub extern "C" fn ondristela_view_plain(
-    layout: &[u64; LAYOUT_SIZE],
-    view: &mut [u64; VIEW_SIZE],
-) -> u64
+pub fn ondristela_view_plain(layout: &[u64; LAYOUT_SIZE], view: &mut [u64; VIEW_SIZE]) -> u64
     ensures value { result ≡ viewed_refusal (plain_view (layout_from layout.now)) }
     ensures view_after { view.new ≡ viewed_left (plain_view (layout_from layout.now)) view.old }
 {
@@ -147,8 +121,7 @@ pub extern "C" fn ondristela_view_plain(
 }
 
 // A view of an outer volume whose writes may not touch a hidden volume's data area, its lock open.
-#[unsafe(no_mangle)]
-pub extern "C" fn ondristela_view_protected(
+pub fn ondristela_view_protected(
     outer: &[u64; LAYOUT_SIZE],
     hidden: &[u64; LAYOUT_SIZE],
     view: &mut [u64; VIEW_SIZE],
@@ -160,8 +133,7 @@ pub extern "C" fn ondristela_view_protected(
 }
 
 // Copies count sectors, from user sector first on, out of the image and fills the buffer with them.
-#[unsafe(no_mangle)]
-pub extern "C" fn ondristela_read(
+pub fn ondristela_read(
     view: &[u64; VIEW_SIZE],
     image: &[u8],
     first: u64,
@@ -175,8 +147,7 @@ pub extern "C" fn ondristela_read(
 }
 
 // Copies the buffer into the image's sectors, from user sector first on. 18 closes the view's lock.
-#[unsafe(no_mangle)]
-pub extern "C" fn ondristela_write(
+pub fn ondristela_write(
     view: &mut [u64; VIEW_SIZE],
     image: &mut [u8],
     first: u64,
@@ -190,8 +161,7 @@ pub extern "C" fn ondristela_write(
 }
 
 // Where in the host a read of such sizes finds its bytes: the extent's first byte.
-#[unsafe(no_mangle)]
-pub extern "C" fn ondristela_read_extent(
+pub fn ondristela_read_extent(
     view: &[u64; VIEW_SIZE],
     image_size: u64,
     first: u64,
@@ -206,8 +176,7 @@ pub extern "C" fn ondristela_read_extent(
 }
 
 // Where in the host a write of such sizes finds its bytes. 18 closes the view's lock, as a write's does.
-#[unsafe(no_mangle)]
-pub extern "C" fn ondristela_write_extent(
+pub fn ondristela_write_extent(
     view: &mut [u64; VIEW_SIZE],
     image_size: u64,
     first: u64,
@@ -223,24 +192,21 @@ pub extern "C" fn ondristela_write_extent(
 
 // Enciphers a unit of 512 bytes in its place: AES-256 in XTS. The first 32 bytes of the key are for the
 // data, the next 32 for the tweak.
-#[unsafe(no_mangle)]
-pub extern "C" fn ondristela_encipher(key: &[u8; 64], tweak_number: u64, unit: &mut [u8; 512])
+pub fn ondristela_encipher(key: &[u8; 64], tweak_number: u64, unit: &mut [u8; 512])
     ensures { unit.new ≡ enciphered key.now tweak_number unit.old }
 {
     boundary_units::encipher(key, tweak_number, unit)
 }
 
 // Deciphers a unit of 512 bytes in its place.
-#[unsafe(no_mangle)]
-pub extern "C" fn ondristela_decipher(key: &[u8; 64], tweak_number: u64, unit: &mut [u8; 512])
+pub fn ondristela_decipher(key: &[u8; 64], tweak_number: u64, unit: &mut [u8; 512])
     ensures { unit.new ≡ deciphered key.now tweak_number unit.old }
 {
     boundary_units::decipher(key, tweak_number, unit)
 }
 
 // Fills the buffer with count sectors of the image, from user sector first on, each deciphered.
-#[unsafe(no_mangle)]
-pub extern "C" fn ondristela_read_plaintext(
+pub fn ondristela_read_plaintext(
     view: &[u64; VIEW_SIZE],
     key: &[u8; 64],
     image: &[u8],
@@ -255,8 +221,7 @@ pub extern "C" fn ondristela_read_plaintext(
 }
 
 // Enciphers the buffer's sectors into the image, from user sector first on. 18 closes the view's lock.
-#[unsafe(no_mangle)]
-pub extern "C" fn ondristela_write_plaintext(
+pub fn ondristela_write_plaintext(
     view: &mut [u64; VIEW_SIZE],
     key: &[u8; 64],
     image: &mut [u8],
@@ -271,8 +236,7 @@ pub extern "C" fn ondristela_write_plaintext(
 }
 
 // CRC-32 of ITU-T V.42.
-#[unsafe(no_mangle)]
-pub extern "C" fn ondristela_crc32(bytes: &[u8]) -> u32
+pub fn ondristela_crc32(bytes: &[u8]) -> u32
     ensures { result ≡ crc32 bytes.now }
 {
     crc32::checksum(bytes)

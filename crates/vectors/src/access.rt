@@ -2,7 +2,9 @@
 // write of it: the length of the image, the first sector and the count, the length of the buffer, what it is
 // filled from, and what the sector is before the call; for plaintext, its two keys. What the call leaves is
 // printed: the sector, checksums of the buffer and of the whole image, and the view.
+use crate::streams::Streams;
 use crate::{image, input, print, views};
+use std::io;
 
 const READ: u64 = 8;
 
@@ -27,24 +29,35 @@ const KEYS: usize = 8;
 // 130 sectors: more than a call may move.
 const BUFFER_SPACE: usize = 66_560;
 
-pub fn run(image: &mut [u8; image::SPACE], view: &mut [u64; views::SIZE], body: &[u8]) {
+pub fn run(
+    streams: &mut Streams,
+    image: &mut [u8],
+    view: &mut [u64; views::SIZE],
+    body: &[u8],
+) -> io::Result<()> {
     let mut space = [0u8; BUFFER_SPACE];
-    lend(image, view, body, &mut space);
-    print::checksum(image);
-    print::numbers(view);
+    lend(streams, image, view, body, &mut space)?;
+    print::checksum(streams, image)?;
+    print::numbers(streams, view)
 }
 
 // Lends so much of the image and of the space as the record says.
-fn lend(image: &mut [u8], view: &mut [u64; views::SIZE], body: &[u8], space: &mut [u8]) {
+fn lend(
+    streams: &mut Streams,
+    image: &mut [u8],
+    view: &mut [u64; views::SIZE],
+    body: &[u8],
+    space: &mut [u8],
+) -> io::Result<()> {
     let image_size = input::within(input::number(body, IMAGE_SIZE), image);
     let buffer_size = input::within(input::number(body, BUFFER_SIZE), space);
     let buffer = &mut space[..buffer_size];
     image::fill(buffer, input::number(body, SEED));
     let mut sector = [input::number(body, SECTOR)];
     let refusal = call(&mut image[..image_size], view, body, buffer, &mut sector);
-    print::answer(refusal);
-    print::cell(&sector);
-    print::checksum(buffer);
+    print::answer(streams, refusal)?;
+    print::cell(streams, &sector)?;
+    print::checksum(streams, buffer)
 }
 
 fn call(

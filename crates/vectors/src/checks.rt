@@ -1,11 +1,13 @@
 // Records that ask for the checksum of what follows, or for a header's location by code and host size.
+use crate::streams::Streams;
 use crate::{input, print};
+use std::io;
 
-pub fn checksum(body: &[u8]) {
-    print::checksum(input::after(body, 2));
+pub fn checksum(streams: &mut Streams, body: &[u8]) -> io::Result<()> {
+    print::checksum(streams, input::after(body, 2))
 }
 
-pub fn location(body: &[u8]) {
+pub fn location(streams: &mut Streams, body: &[u8]) -> io::Result<()> {
     let code = input::low_byte(body, 2);
-    print::numbered(locations::locate(code, input::number(body, 3)));
+    print::numbered(streams, locations::locate(code, input::number(body, 3)))
 }

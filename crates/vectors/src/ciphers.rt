@@ -1,7 +1,10 @@
 // Records that ask for the round keys of a key, or for a block or a unit to be enciphered and then deciphered:
 // of a unit the tweak number; the key or keys; and the block or unit.
+use crate::streams::Streams;
 use crate::{input, print};
 use aes::Direction;
+use std::io;
+use std::io::Write;
 
 const PUBLISHED_UNIT: u64 = 16;
 
@@ -22,36 +25,39 @@ const ROUND_KEYS: usize = 15;
 // Half of the bits of a number.
 const HALF: u64 = 4_294_967_296;
 
-pub fn run_key(body: &[u8]) {
+pub fn run_key(streams: &mut Streams, body: &[u8]) -> io::Result<()> {
     let tables = aes_tables::cipher_tables();
-    print_round_keys(key_expansion::expand(&tables, aes_key(body)));
+    print_round_keys(streams, key_expansion::expand(&tables, aes_key(body)))
 }
 
-pub fn run_block(body: &[u8]) {
+pub fn run_block(streams: &mut Streams, body: &[u8]) -> io::Result<()> {
     let tables = aes_tables::cipher_tables();
     let keys = key_expansion::expand(&tables, aes_key(body));
     let enciphered = aes::convert_block(&tables, keys, Direction::Encipher, plain_block(body));
-    print_block(enciphered);
-    print_block(aes::convert_block(&tables, keys, Direction::Decipher, enciphered));
+    print_block(streams, enciphered)?;
+    print_block(
+        streams,
+        aes::convert_block(&tables, keys, Direction::Decipher, enciphered),
+    )
 }
 
-pub fn run_unit(body: &[u8]) {
+pub fn run_unit(streams: &mut Streams, body: &[u8]) -> io::Result<()> {
     let keys = input::key_pair(body, UNIT_KEYS);
     let tweak_number = input::number(body, TWEAK_NUMBER);
     let mut unit = [0u8; 512];
     input::byte_list(input::after(body, UNIT), &mut unit);
     ondristela::ondristela_encipher(&keys, tweak_number, &mut unit);
-    print_unit(body, &unit);
+    print_unit(streams, body, &unit)?;
     ondristela::ondristela_decipher(&keys, tweak_number, &mut unit);
-    print_unit(body, &unit);
+    print_unit(streams, body, &unit)
 }
 
 // The bytes of a published one, and a checksum of any other.
-fn print_unit(body: &[u8], unit: &[u8; 512]) {
+fn print_unit(streams: &mut Streams, body: &[u8], unit: &[u8; 512]) -> io::Result<()> {
     if input::number(body, 0) == PUBLISHED_UNIT {
-        print::hex(unit);
+        print::hex(streams, unit)
     } else {
-        print::checksum(unit);
+        print::checksum(streams, unit)
     }
 }
 
@@ -79,23 +85,23 @@ fn column(number: u64) -> [u8; 4] {
     column
 }
 
-fn print_round_keys(keys: [[[u8; 4]; 4]; ROUND_KEYS]) {
-    let mut i = 0;
-    while i < ROUND_KEYS {
-        print_block(keys[i]);
-        i += 1;
+fn print_round_keys(streams: &mut Streams, keys: [[[u8; 4]; 4]; ROUND_KEYS]) -> io::Result<()> {
+    for key in keys {
+        print_block(streams, key)?;
     }
+    Ok(())
 }
 
 // The bytes of a block, column by column.
-fn print_block(block: [[u8; 4]; 4]) {
-    input::copy_text();
-    print_column(block[0]);
-    print_column(block[1]);
-    print_column(block[2]);
-    print_column(block[3]);
+fn print_block(streams: &mut Streams, block: [[u8; 4]; 4]) -> io::Result<()> {
+    input::copy_text(streams)?;
+    for column in block {
+        print_column(streams, column)?;
+    }
+    Ok(())
 }
 
-fn print_column(column: [u8; 4]) {
-    io::print_hex(1, numbers::read_big_endian(&column), 8);
+fn print_column(streams: &mut Streams, column: [u8; 4]) -> io::Result<()> {
+    let number = numbers::read_big_endian(&column);
+    write!(streams.output, "{number:08x}")
 }

@@ -1,20 +1,22 @@
 // Records that ask where a read or, by any other number, a write finds its bytes: the numbers of a read or
 // write, but with what the offset is before the call where the buffer is filled from. What the call leaves
 // is printed: the offset, the sector and the view.
+use crate::streams::Streams;
 use crate::{access, input, print, views};
+use std::io;
 
 const READ: u64 = 10;
 
 const OFFSET: usize = 6;
 
-pub fn run(view: &mut [u64; views::SIZE], body: &[u8]) {
+pub fn run(streams: &mut Streams, view: &mut [u64; views::SIZE], body: &[u8]) -> io::Result<()> {
     let mut offset = [input::number(body, OFFSET)];
     let mut sector = [input::number(body, access::SECTOR)];
     let refusal = call(view, body, &mut offset, &mut sector);
-    print::answer(refusal);
-    print::cell(&offset);
-    print::cell(&sector);
-    print::numbers(view);
+    print::answer(streams, refusal)?;
+    print::cell(streams, &offset)?;
+    print::cell(streams, &sector)?;
+    print::numbers(streams, view)
 }
 
 fn call(

@@ -1,7 +1,9 @@
 // Records that ask for a header to be written: what it is to tell, the length of the output and what it is
 // filled from, the length of the salt, the salt and the keys. What the call leaves in the output is printed:
 // its checksum, and what opening says of it.
+use crate::streams::Streams;
 use crate::{image, input, openings, print};
+use std::io;
 
 // As the number that its four bytes spell.
 const MAGIC: usize = 2;
@@ -32,20 +34,20 @@ const SALT: usize = 13;
 // A header, and a byte more, so that it can be passed too long.
 const OUTPUT_SPACE: usize = 513;
 
-pub fn run(body: &[u8]) {
+pub fn run(streams: &mut Streams, body: &[u8]) -> io::Result<()> {
     let mut space = [0u8; OUTPUT_SPACE];
-    lend(body, &mut space);
+    lend(streams, body, &mut space)
 }
 
 // Lends so much of the space as the record says.
-fn lend(body: &[u8], space: &mut [u8]) {
+fn lend(streams: &mut Streams, body: &[u8], space: &mut [u8]) -> io::Result<()> {
     let output_size = input::within(input::number(body, OUTPUT_SIZE), space);
     let output = &mut space[..output_size];
     image::fill(output, input::number(body, SEED));
     let refusal = call(body, output);
-    print::answer(refusal);
-    print::checksum(output);
-    print_opened(body, output);
+    print::answer(streams, refusal)?;
+    print::checksum(streams, output)?;
+    print_opened(streams, body, output)
 }
 
 fn call(body: &[u8], output: &mut [u8]) -> u64 {
@@ -73,8 +75,8 @@ fn write(magic: &[u8; 4], body: &[u8], salt: &[u8], keys: &[u8], output: &mut [u
 }
 
 // Opens what is left, by the code and the host size that the header was asked for.
-fn print_opened(body: &[u8], output: &[u8]) {
+fn print_opened(streams: &mut Streams, body: &[u8], output: &[u8]) -> io::Result<()> {
     let host_size = input::number(body, HOST_SIZE);
     let codes = [input::low_byte(body, CODE)];
-    openings::open(output, &codes, host_size);
+    openings::open(streams, output, &codes, host_size)
 }

@@ -6,11 +6,9 @@ pub const SPACE: usize = 1_048_577;
 // Fills with bytes that differ from sector to sector and from seed to seed.
 pub fn fill(bytes: &mut [u8], seed: u64) {
     let mut state = seed;
-    let mut i = 0;
-    while i < bytes.len() {
+    for byte in bytes.iter_mut() {
         state = next(state);
-        bytes[i] = (state / 65_536 % 256) as u8;
-        i += 1;
+        *byte = (state / 65_536 % 256) as u8;
     }
 }
 

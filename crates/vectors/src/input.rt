@@ -1,7 +1,12 @@
 // The input is parts: a length, and so many bytes. A record is a body and then texts, one before each
 // of its answers and one after the last. A body is numbers, what is asked for and the slot of a view
 // first, and after them any bytes. Every number is eight bytes, big-endian.
-ghost use Rattle.io.specs.Counts.{IsPrefixLen};
+ghost use Rattle.std.specs.Prelude.{IfOk};
+ghost use Rattle.std.specs.Counts.{IsPrefixLen};
+
+use crate::streams::Streams;
+use std::io;
+use std::io::{ErrorKind, Read, Write};
 
 pub const NUMBER_SIZE: usize = 8;
 
@@ -12,29 +17,36 @@ const SIZES: u64 = 4_294_967_296;
 
 // Reads a part, and says how much of the space it fills: nothing where the input has ended. What there
 // is no space for is taken for the next part, and the lines are then not the expected ones.
-pub fn read_part(space: &mut [u8]) -> usize
-    ensures { IsPrefixLen result space.new }
+pub fn read_part(streams: &mut Streams, space: &mut [u8]) -> io::Result<usize>
+    ensures { IfOk result (λ size. IsPrefixLen size space.new) }
 {
     let mut length = [0u8; NUMBER_SIZE];
-    io::read_full(0, &mut length);
-    let size = number(&length, 0);
-    let end = within(size, space);
-    io::read_full(0, &mut space[..end]);
-    within(size, space)
+    read_full(streams, &mut length)?;
+    let size = within(number(&length, 0), space);
+    read_full(streams, &mut space[..size])?;
+    Ok(size)
+}
+
+// Fills the space, or so much of it as the input still has bytes for.
+fn read_full(streams: &mut Streams, space: &mut [u8]) -> io::Result<()> {
+    match streams.input.read_exact(space) {
+        Err(error) if error.kind() == ErrorKind::UnexpectedEof => Ok(()),
+        read => read,
+    }
 }
 
 // Reads the next text, and prints it.
-pub fn copy_text() {
+pub fn copy_text(streams: &mut Streams) -> io::Result<()> {
     let mut text = [0u8; TEXT_SPACE];
-    let size = read_part(&mut text);
-    io::write_all(1, &text[..size]);
+    let size = read_part(streams, &mut text)?;
+    streams.output.write_all(&text[..size])
 }
 
 // A size, or the length of the space where that is less.
 pub fn within(size: u64, space: &[u8]) -> usize
     ensures { IsPrefixLen result space.now }
 {
-    io::count((size % SIZES) as isize, space)
+    space.len().min((size % SIZES) as usize)
 }
 
 // A number by its place among the numbers, 0 where there are fewer.
@@ -68,28 +80,21 @@ pub fn after(body: &[u8], count: usize) -> &[u8] {
 
 // As many numbers as the list holds.
 pub fn number_list(numbers: &[u8], list: &mut [u64]) {
-    let mut place = 0;
-    while place < list.len() {
-        list[place] = number(numbers, place);
-        place += 1;
+    for (place, cell) in list.iter_mut().enumerate() {
+        *cell = number(numbers, place);
     }
 }
 
 // As many bytes as the list holds.
 pub fn byte_list(bytes: &[u8], list: &mut [u8]) {
-    let mut place = 0;
-    while place < list.len() {
-        list[place] = byte(bytes, place);
-        place += 1;
+    for (place, cell) in list.iter_mut().enumerate() {
+        *cell = byte(bytes, place);
     }
 }
 
 // A byte by its place, 0 where there are fewer.
 fn byte(bytes: &[u8], place: usize) -> u8 {
-    if bytes.len() <= place {
-        return 0;
-    }
-    bytes[place]
+    bytes.get(place).copied().unwrap_or(0)
 }
 
 // The 64 bytes after so many numbers: the two keys of a unit or of plaintext.

@@ -1,5 +1,7 @@
 // Runs the records of standard input, made by tests/make_vectors.py, and prints the answers of the calls
 // that they ask for, with the texts that they have for them. Assumes nothing.
+#![tactic(auto)]
+
 mod access;
 mod checks;
 mod ciphers;
@@ -10,7 +12,12 @@ mod input;
 mod map;
 mod openings;
 mod print;
+mod streams;
 mod views;
+
+use std::io;
+use std::io::Write;
+use streams::Streams;
 
 // What a record asks for, the first number of its body.
 const CHECKSUM: u64 = 0;
@@ -46,66 +53,77 @@ const SLOT: usize = 1;
 
 const MAX_RECORDS: u32 = 8_192;
 
+// The largest body is below 64 KiB.
+const BODY_SPACE: usize = 65_536;
+
 // The records run on one image and on two views of it, which begin as all zeros.
-fn main() {
-    let mut image = [0u8; image::SPACE];
+fn main(rt: HostRuntime) -> io::Result<()> {
+    let mut streams = streams::standard(&rt)?;
+    let mut image = vec![in rt.alloc(); 0u8; image::SPACE]?;
     let mut left = [0u64; views::SIZE];
     let mut right = [0u64; views::SIZE];
-    run_records(&mut image, &mut left, &mut right);
+    run_records(&mut streams, &mut image, &mut left, &mut right)?;
+    streams.output.flush()
 }
 
 fn run_records(
-    image: &mut [u8; image::SPACE],
+    streams: &mut Streams,
+    image: &mut [u8],
     left: &mut [u64; views::SIZE],
     right: &mut [u64; views::SIZE],
-) {
+) -> io::Result<()> {
     image::fill(image, 0);
-    let mut records: u32 = 0;
-    while records < MAX_RECORDS {
-        if !run_record(image, left, right) {
-            return;
+    for _ in 0..MAX_RECORDS {
+        if !run_record(streams, image, left, right)? {
+            break;
         }
-        records += 1;
     }
+    Ok(())
 }
 
 // Reads a record, and prints its answers. Whether there was one.
 fn run_record(
-    image: &mut [u8; image::SPACE],
+    streams: &mut Streams,
+    image: &mut [u8],
     left: &mut [u64; views::SIZE],
     right: &mut [u64; views::SIZE],
-) -> bool {
-    let mut space = io::large_buffer();
-    let size = input::read_part(&mut space);
+) -> io::Result<bool> {
+    let mut space = [0u8; BODY_SPACE];
+    let size = input::read_part(streams, &mut space)?;
     if size == 0 {
-        return false;
+        return Ok(false);
     }
     let body = &space[..size];
     if input::number(body, SLOT) == 0 {
-        run(image, left, body);
+        run(streams, image, left, body)?;
     } else {
-        run(image, right, body);
+        run(streams, image, right, body)?;
     }
-    input::copy_text();
-    true
+    input::copy_text(streams)?;
+    Ok(true)
 }
 
-fn run(image: &mut [u8; image::SPACE], view: &mut [u64; views::SIZE], body: &[u8]) {
+fn run(
+    streams: &mut Streams,
+    image: &mut [u8],
+    view: &mut [u64; views::SIZE],
+    body: &[u8],
+) -> io::Result<()> {
     match input::number(body, 0) {
-        CHECKSUM => checks::checksum(body),
-        LOCATION => checks::location(body),
-        OPENING => openings::run(body),
-        WRITE_HEADER => headers::run(body),
-        MAP => map::run(body),
-        PLAIN => views::make_plain(view, body),
-        PROTECTED => views::make_protected(view, body),
-        MADE_UP => views::make_up(view, body),
-        READ_EXTENT => extents::run(view, body),
-        WRITE_EXTENT => extents::run(view, body),
-        KEY => ciphers::run_key(body),
-        BLOCK => ciphers::run_block(body),
-        PUBLISHED_UNIT => ciphers::run_unit(body),
-        UNIT => ciphers::run_unit(body),
-        _ => access::run(image, view, body),
+        CHECKSUM => checks::checksum(streams, body),
+        LOCATION => checks::location(streams, body),
+        OPENING => openings::run(streams, body),
+        WRITE_HEADER => headers::run(streams, body),
+        MAP => map::run(streams, body),
+        PLAIN => views::make_plain(streams, view, body),
+        PROTECTED => views::make_protected(streams, view, body),
+        MADE_UP => views::make_up(streams, view, body),
+        READ_EXTENT => extents::run(streams, view, body),
+        WRITE_EXTENT => extents::run(streams, view, body),
+        KEY => ciphers::run_key(streams, body),
+        BLOCK => ciphers::run_block(streams, body),
+        PUBLISHED_UNIT => ciphers::run_unit(streams, body),
+        UNIT => ciphers::run_unit(streams, body),
+        _ => access::run(streams, image, view, body),
     }
 }

@@ -1,18 +1,20 @@
 // Records that ask for all that the sector map says of a number, taken as a user sector and as a host
 // sector: that number and a layout's.
+use crate::streams::Streams;
 use crate::{input, print};
 use layout::Layout;
+use std::io;
 use tweaks::Tweak;
 
-pub fn run(body: &[u8]) {
+pub fn run(streams: &mut Streams, body: &[u8]) -> io::Result<()> {
     let sector = input::number(body, 2);
     let layout = layout_from(input::after(body, 3));
-    print::number(layout::is_sound(layout) as u64);
-    print::numbered(sector_map::sector_count(layout));
-    print::numbered(sector_map::host_sector(layout, sector));
-    print::numbered(sector_map::user_sector(layout, sector));
-    print::numbered(tweaks::tweak_number(layout, sector));
-    print_tweak(tweaks::tweak_block(layout, sector));
+    print::number(streams, layout::is_sound(layout) as u64)?;
+    print::numbered(streams, sector_map::sector_count(layout))?;
+    print::numbered(streams, sector_map::host_sector(layout, sector))?;
+    print::numbered(streams, sector_map::user_sector(layout, sector))?;
+    print::numbered(streams, tweaks::tweak_number(layout, sector))?;
+    print_tweak(streams, tweaks::tweak_block(layout, sector))
 }
 
 // A layout from its numbers, in their order.
@@ -31,9 +33,9 @@ fn layout_from(numbers: &[u8]) -> Layout {
 }
 
 // The tweak's number, and the bytes of its block in their order.
-fn print_tweak(tweak: Tweak) {
+fn print_tweak(streams: &mut Streams, tweak: Tweak) -> io::Result<()> {
     let number = tweak.number;
     let block = tweak.block;
-    print::numbered(number);
-    print::hex(&block);
+    print::numbered(streams, number)?;
+    print::hex(streams, &block)
 }

@@ -1,58 +1,59 @@
 // Answers, each with the next text before it.
 use crate::input;
+use crate::streams::Streams;
 use answers::Numbered;
+use std::io;
+use std::io::Write;
 
-pub fn number(number: u64) {
-    input::copy_text();
-    io::print_decimal(1, number);
+pub fn number(streams: &mut Streams, number: u64) -> io::Result<()> {
+    input::copy_text(streams)?;
+    write!(streams.output, "{number}")
 }
 
 // What a call stored, or left.
-pub fn cell(cell: &[u64; 1]) {
-    number(cell[0]);
+pub fn cell(streams: &mut Streams, cell: &[u64; 1]) -> io::Result<()> {
+    number(streams, cell[0])
 }
 
 // Each number with a space before it.
-pub fn numbers(list: &[u64]) {
-    input::copy_text();
-    let mut i = 0;
-    while i < list.len() {
-        io::write_all(1, b" ");
-        io::print_decimal(1, list[i]);
-        i += 1;
+pub fn numbers(streams: &mut Streams, list: &[u64]) -> io::Result<()> {
+    input::copy_text(streams)?;
+    for number in list {
+        write!(streams.output, " {number}")?;
     }
+    Ok(())
 }
 
 // Bytes in their order, eight at a time.
-pub fn hex(bytes: &[u8]) {
-    input::copy_text();
-    let mut place = 0;
-    while place < bytes.len() / input::NUMBER_SIZE {
-        io::print_hex(1, input::number(bytes, place), 16);
-        place += 1;
+pub fn hex(streams: &mut Streams, bytes: &[u8]) -> io::Result<()> {
+    input::copy_text(streams)?;
+    for place in 0..bytes.len() / input::NUMBER_SIZE {
+        let number = input::number(bytes, place);
+        write!(streams.output, "{number:016x}")?;
     }
+    Ok(())
 }
 
-pub fn checksum(bytes: &[u8]) {
-    input::copy_text();
-    io::print_hex(1, ondristela::ondristela_crc32(bytes) as u64, 8);
+pub fn checksum(streams: &mut Streams, bytes: &[u8]) -> io::Result<()> {
+    input::copy_text(streams)?;
+    let checksum = ondristela::ondristela_crc32(bytes);
+    write!(streams.output, "{checksum:08x}")
 }
 
 // What a call of the boundary answered.
-pub fn answer(refusal: u64) {
-    input::copy_text();
+pub fn answer(streams: &mut Streams, refusal: u64) -> io::Result<()> {
+    input::copy_text(streams)?;
     if refusal == 0 {
-        io::write_all(1, b"accepted");
+        write!(streams.output, "accepted")
     } else {
-        io::write_all(1, b"refused ");
-        io::print_decimal(1, refusal);
+        write!(streams.output, "refused {refusal}")
     }
 }
 
 // The number of an answer of the library, or its refusal.
-pub fn numbered(numbered: Numbered) {
+pub fn numbered(streams: &mut Streams, numbered: Numbered) -> io::Result<()> {
     match numbered {
-        Numbered::Number(told) => number(told),
-        Numbered::Refused(refusal) => answer(refusal as u64),
+        Numbered::Number(told) => number(streams, told),
+        Numbered::Refused(refusal) => answer(streams, refusal as u64),
     }
 }
