@@ -46,7 +46,8 @@ def committed_files(revision):
 
 
 def present_files():
-    paths = (str(path.relative_to(ROOT)) for path in (ROOT / 'crates').rglob('*.*'))
+    paths = (str(path.relative_to(ROOT)) for folder in ('src', 'specs', 'proofs')
+             for path in ROOT.glob(f'crates/*/{folder}/**/*.*'))
     return {path: (ROOT / path).read_text() for path in sorted(paths) if is_compared(path)}
 
 

@@ -16,7 +16,7 @@ from collections import namedtuple
 import marked
 
 LIBRARY = 'target/staticlib/libondristela.a'
-EXPORTED = 'crates/ondristela/src/lib.rt'
+EXPORTED = 'crates/ondristela_c/src/lib.rt'
 PAGE = 'docs/PERFORMANCE.md'
 MARKERS = ('<!-- stack: written by tools/stack.py -->\n', '<!-- /stack -->\n')
 LIMIT = 1024
