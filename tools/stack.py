@@ -60,7 +60,7 @@ def goal(function, name, operands, filled):
         return ''
     if filled:
         return filled.removesuffix('-0x4').removeprefix('.text.')
-    target = re.search(r'<([^+]+)(?:\+0x[0-9a-f]+)?>$', operands)
+    target = re.search(r'<(.+?)(?:\+0x[0-9a-f]+)?>$', operands)
     return target[1] if target and (target[1] != function or name == 'call') else ''
 
 
