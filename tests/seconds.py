@@ -93,7 +93,7 @@ def problems():
         yield f'the table of the made-up logs is\n{table(old, new)}'
     if kept_text(new) != KEPT:
         yield f'of the later log it keeps\n{kept_text(new)}'
-    if table(old, read_kept(kept_text(new))) != SECONDS:
+    if table(old, read_kept('# As of then.\n' + kept_text(new))) != SECONDS:
         yield 'what it keeps is not read as the log is'
     if read_kept(kept_text(read_log(''))).gate is not None:
         yield 'a log that ends early has a time for the gate'

@@ -32,7 +32,6 @@ CODE = {
     'a call that is filled in': (8 + 40, 'call 0 <a::g>', 'ret'),
     'a call of a name with a plus': (8 + 24, 'call 0 <a++b::g+drop>', 'ret'),
     'a jump there': (8 + 16, 'jmp 0 <a++b::g+drop>'),
-    'a jump into the same function': (8 + 8, 'jmp 2 <f+0x2>', 'ret', 'push %rbx', 'pop %rbx', 'jmp 1 <f+0x1>'),
     'a jump to another function': (8 + 32, filled('jmp', '.text.a::g')),
     'a jump there on one of two paths': (8 + 32, filled('je', '.text.a::g'), 'ret'),
     'a jump there of the other kind': (8 + 32, filled('jmp', '.text.a::g', 'PC32')),

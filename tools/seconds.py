@@ -63,7 +63,7 @@ def kept_text(seconds):
 
 
 def read_kept(text):
-    *rows, gate = list(csv.DictReader(io.StringIO(text)))
+    *rows, gate = list(csv.DictReader(io.StringIO(re.sub(r'^#.*\n', '', text, flags=re.M))))
     return Seconds({row['crate']: number(row['check']) for row in rows},
                    {row['crate']: number(row['edits']) for row in rows},
                    Counter({row['crate']: int(row['count']) for row in rows}), number(gate['check']), '')
@@ -71,7 +71,7 @@ def read_kept(text):
 
 def read(path):
     text = Path(path).read_text()
-    return read_kept(text) if text.startswith('crate,') else read_log(text)
+    return read_kept(text) if re.match(r'(#.*\n)*crate,', text) else read_log(text)
 
 
 # The table.
