@@ -194,7 +194,7 @@ def main():
     page, log = (ROOT / PAGE).read_text(), Path(given.words[0]).read_text()
     wanted, found = open_pairs(page, log, lambda path: (ROOT / path).read_text())
     found += problems(wanted, try_edits(wanted, given.jobs))
-    print('\n'.join(found) or f'refused: every edit at each call that it stands beside in {PAGE}; {len(wanted)} were tried again')
+    print('\n'.join(found) or f'refused: every edit at each call that it stands beside in {PAGE}; tried again: {len(wanted)}')
     sys.exit(1 if found else 0)
 
 
