@@ -34,8 +34,8 @@ says 0 "$last" "$ok" "$last (2 kept)"
 says 0 "$last" "${ok/refused/refused, 1 of them only by a limit}" "$last"
 says 0 "$last" "${ok/refused/refused, 0 bad}" "$last"
 says 0 "$last" "${ok/$done_here/done in this run: 0 of the 2 proofs; the others are kept}" "$last"
-refuses "rt passed, with 1 bad must-fail edits" "${ok/refused/refused, 1 bad}" "$last"
-refuses "rt passed, with 10 bad must-fail edits" \
+refuses "rt passed, with bad must-fail edits: 1" "${ok/refused/refused, 1 bad}" "$last"
+refuses "rt passed, with bad must-fail edits: 10" \
     "${ok/2 refused/2 refused, 1 of them only by a limit, 10 bad}" "$last"
 refuses 'of 2 must-fail edits 1 were refused' "${ok/2 refused/1 refused}" "$last"
 refuses 'rt does not say how many must-fail edits were refused' "${ok/; must-fail edits: 2 refused/}" "$last"

@@ -18,7 +18,7 @@ verdict=${BASH_REMATCH[1]}
 
 ok=$(grep '^rt: ok\b' "$log" | tail -n 1) || stop "rt has no line 'rt: ok'"
 while read -r bad _; do
-    [[ $bad =~ ^0+$ ]] || stop "rt passed, with $bad bad must-fail edits"
+    [[ $bad =~ ^0+$ ]] || stop "rt passed, with bad must-fail edits: $bad"
 done < <(grep -oE '[^ ,;]* bad\b' <<<"$ok" || true)
 [[ $ok =~ must-fail\ edits:\ ([0-9]+)\ refused ]] || stop 'rt does not say how many must-fail edits were refused'
 edits=$(find crates -path '*/must-fail/*.edit' | wc -l)
