@@ -46,7 +46,7 @@ calls() {
     rm -f called
     "${@:4}" >"$work/said" 2>&1 || ended=$?
     [ "$ended" -eq "$3" ] || failed "$1 ended with $ended and not with $3"
-    [ ! -e called ] || times=$(grep -c '^lib in ondristela_c$' called)
+    [ ! -e called ] || times=$(grep -c '^lib --cpu x86-64 in ondristela_c$' called)
     [ "$times" -eq "$2" ] || failed "$1 called rt $times times and not $2"
     checks=$((checks + 1))
 }

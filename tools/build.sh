@@ -17,9 +17,10 @@ fi
 cd "$(dirname "$0")/.."
 cargo_folder=${CARGO_TARGET_DIR:-rust/target}
 
-# made CRATE VERB INPUT OUTPUT: has rt make OUTPUT in the crate's folder out/, and takes it for $file.
+# made CRATE VERB INPUT OUTPUT: has rt make OUTPUT in the crate's folder out/, for every x86-64 processor and not for
+# those alone that rt takes by itself, and takes it for $file.
 made() {
-    (cd "crates/$1" && rt "$2") <"$3" && mkdir -p "$(dirname "$file")" && cp -- "crates/$1/out/$4" "$file"
+    (cd "crates/$1" && rt "$2" --cpu x86-64) <"$3" && mkdir -p "$(dirname "$file")" && cp -- "crates/$1/out/$4" "$file"
 }
 
 # describe NAME: its file, what it is built from and by, and what is said meanwhile.

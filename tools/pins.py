@@ -43,7 +43,7 @@ Result = namedtuple('Result', 'place verdict by')
 # The crates, and their order.
 
 def read_crates(root):
-    rows = re.findall(r'^(\w+)(?: [\w= +]+)?:([^#\n]*)', (root / 'crates.txt').read_text(), re.M)
+    rows = re.findall(r'^(\w+)\b[^:#\n]*:([^#\n]*)', (root / 'crates.txt').read_text(), re.M)
     return {name: rest.split() for name, rest in rows}
 
 
