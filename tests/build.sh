@@ -1,6 +1,6 @@
 #!/usr/bin/env bash
 # Whether a library that was not built from the sources as they are is ever taken: tools/build.sh, rust/build.rs
-# and cargo in a small repository, whose rt only notes that it was called and writes an archive with nothing in it.
+# and cargo in a small repository, whose rt only notes where it was called and writes an archive with nothing in it.
 # Ends with 1 at the first check that fails.
 set -euo pipefail
 
@@ -8,7 +8,7 @@ root=$(cd "$(dirname "$0")/.." && pwd)
 work=$(mktemp -d)
 trap 'rm -rf "$work"' EXIT
 copy="$work/a copy"
-mkdir -p "$work/bin" "$copy"/crates/one/{src,specs,proofs} "$copy"/rust/src "$copy"/{tools,empty}
+mkdir -p "$work/bin" "$copy"/crates/{one,ondristela_c}/{src,specs,proofs} "$copy"/rust/src "$copy"/{tools,empty}
 cp "$root"/tools/{build,needs}.sh "$copy/tools"
 cp "$root/rust/build.rs" "$copy/rust"
 cat >"$copy/rust/Cargo.toml" <<'END'
@@ -26,10 +26,11 @@ library=target/staticlib/libondristela.a
 
 cat >"$work/bin/rt" <<'END'
 #!/bin/sh
-echo "$*" >>called
-[ ! -e refused ] || { echo 'not proved'; exit 1; }
-mkdir -p target/staticlib
-printf '!<arch>\n' >target/staticlib/libondristela.a
+echo "$* in ${PWD##*/}" >>../../called
+[ ! -e ../../refused ] || { echo 'not proved'; exit 1; }
+[ ! -e ../../lost ] || { rm -f out/libondristela_c.a; exit 0; }
+mkdir -p out
+printf '!<arch>\n' >out/libondristela_c.a
 END
 chmod +x "$work/bin/rt"
 
@@ -45,7 +46,7 @@ calls() {
     rm -f called
     "${@:4}" >"$work/said" 2>&1 || ended=$?
     [ "$ended" -eq "$3" ] || failed "$1 ended with $ended and not with $3"
-    [ ! -e called ] || times=$(grep -c '^staticlib ondristela$' called)
+    [ ! -e called ] || times=$(grep -c '^lib --cpu x86-64 in ondristela_c$' called)
     [ "$times" -eq "$2" ] || failed "$1 called rt $times times and not $2"
     checks=$((checks + 1))
 }
@@ -82,12 +83,20 @@ echo 'fn two() {}' >>crates/one/src/lib.rt
 touch refused
 calls 'a build that is refused' 1 1 build
 says 'not proved'
-says "$library was not built: rt staticlib ondristela failed"
+says "$library was not built: rt lib in crates/ondristela_c failed"
 [ ! -e "$library" ] || failed 'a library is left that does not fit the sources'
 calls 'a crate whose library is refused' 1 101 crate
-says "$library was not built: rt staticlib ondristela failed"
+says "$library was not built: rt lib in crates/ondristela_c failed"
 rm refused
 calls 'the crate again' 1 0 crate
+
+# Where rt leaves no archive, no older one is taken.
+echo 'fn two_more() {}' >>crates/one/src/lib.rt
+touch lost
+calls 'a build that leaves nothing' 1 1 build
+[ ! -e "$library" ] || failed 'a library is left that does not fit the sources'
+rm lost
+calls 'a build that leaves something again' 1 0 build
 
 # A library that was built elsewhere is taken as it is, and named where it is missing.
 cp -r target/staticlib elsewhere

@@ -3,6 +3,7 @@
 
     tests/changes.py
 """
+import re
 import sys
 from pathlib import Path
 
@@ -12,14 +13,17 @@ from changes import all_changes  # noqa: E402
 
 SPECS = '''\
 -- Rules, 7 of them. Assumes nothing.
-use Prim.Native.Nat.{ℕ, zero, suc, _+_}
-use mathlib.Core.{Bool.{Bool, _&&_}, List.List}
-use lib.Dec.{eqb, leb}
-use Rattle·layout.specs.declared.Layout.{Layout}
+use Rattle.std.specs.Prelude.{ℕ, zero, suc, ◌+◌, Bool, ◌&&◌, List}
+use Rattle.std.specs.Prelude.{eqb, leb, ◌==◌}
+use Rattle.layout.specs.declared.Layout.{Layout}
 
 -- a rule of two parts
 unfoldable pub rule : Layout → ℕ → Bool
-rule layout first = leb first 512 && eqb (layout .kind) 1
+rule layout first = leb first 512 && eqb layout.kind 1
+
+-- with the words of today
+abbrev pub later : ℕ → Bool
+later first = first == 7 && nat_lt first (9 / 2)
 
 -- by cases, and with a list
 unfoldable pub total : ℕ → List ℕ → ℕ
@@ -29,22 +33,31 @@ total (suc n) list =
 '''
 
 EVERYWHERE = {
-    'rule layout first = ltb first 512 && eqb (layout .kind) 1',
-    'rule layout first = leb first 512 || eqb (layout .kind) 1',
-    'rule layout first = leb first 513 && eqb (layout .kind) 1',
-    'rule layout first = leb first 512 && eqb (layout .kind) 2',
-    'rule layout first = eqb (layout .kind) 1',
+    'rule layout first = ltb first 512 && eqb layout.kind 1',
+    'rule layout first = leb first 512 || eqb layout.kind 1',
+    'rule layout first = leb first 513 && eqb layout.kind 1',
+    'rule layout first = leb first 512 && eqb layout.kind 2',
+    'rule layout first = eqb layout.kind 1',
+    'later first = first == 8 && nat_lt first (9 / 2)',
+    'later first = first == 7 || nat_lt first (9 / 2)',
+    'later first = nat_lt first (9 / 2)',
+    'later first = first == 7 && nat_le first (9 / 2)',
+    'later first = first == 7 && nat_lt first (10 / 2)',
+    'later first = first == 7 && nat_lt first (9 / 3)',
+    'later first = first == 7 && nat_lt first (9 % 2)',
     'total zero list = 1',
     'n * total n list',
 }
-RULE = 'leb first 512 && eqb (layout .kind) 1'
+LATER = 'first == 7 && nat_lt first (9 / 2)'
+RULE = 'leb first 512 && eqb layout.kind 1'
 AT_ONE = {
-    f'rule layout first = cond (eqb (layout .candidate) 1) (not ({RULE})) ({RULE})',
+    f'rule layout first = cond (eqb layout.candidate 1) (not ({RULE})) ({RULE})',
     f'rule layout first = cond (eqb first 1) (let other : ℕ = suc first in let first : ℕ = other in {RULE}) ({RULE})',
-    'total (suc n) list = cond (eqb (getD list 0 0) 1) (let other : List ℕ = 0 ∷ drop 1 list in let list : List ℕ = other in n + total n list) (n + total n list)',
+    f'later first = cond (eqb first 1) (let other : ℕ = suc first in let first : ℕ = other in {LATER}) ({LATER})',
+    'total (suc n) list = cond (eqb (get_or list 0 0) 1) (let other : List ℕ = 0 ∷ drop 1 list in let list : List ℕ = other in n + total n list) (n + total n list)',
 }
 # Imports that a change needs and the file has not.
-IMPORTS = ['use mathlib.Core.Bool.{cond}\n', 'use lib.ListN.{getD}\n', 'use lib.ListN.{drop}\n', 'use mathlib.Core.List.{_∷_}\n']
+IMPORTS = [f'use Rattle.std.specs.Prelude.{{{name}}}\n' for name in ('cond', 'get_or', 'drop', '◌∷◌')]
 
 
 def problems():
@@ -56,9 +69,9 @@ def problems():
     texts = [change.text for change in changes]
     if len(set(texts)) != len(texts) or SPECS in texts:
         yield 'two changes are the same, or one is none'
-    listed = next(change.text for change in changes if 'getD list' in change.new)
+    listed = next(change.text for change in changes if 'get_or list' in change.new)
     yield from (f'it does not write {line.strip()}' for line in IMPORTS if line not in listed)
-    if listed.count('eqb}') + listed.count('{eqb') != 1:
+    if len(re.findall(r'[{ ]eqb[,}]', listed)) != 1:
         yield 'it imports what is there'
 
 

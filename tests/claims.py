@@ -11,7 +11,7 @@ from pathlib import Path
 sys.dont_write_bytecode = True
 sys.path.insert(0, str(Path(__file__).resolve().parent.parent / 'tools'))
 import rules  # noqa: E402
-from claims import PAGE, all_problems, called, claim_problems, is_call_row, problems  # noqa: E402
+from claims import BOUNDARY, PAGE, all_problems, called, claim_problems, is_call_row, problems  # noqa: E402
 from named import CLAIMING, CLAIMS, ROOT, STATING, read_files, read_repository, rows  # noqa: E402
 
 RECORD = 'pub record Claims : Type 0 where\n  -- a claim\n  pub stated : ℕ\n  pub forgotten : ℕ\n'
@@ -104,7 +104,7 @@ def wrong_files(page):
     for row in rows(page):
         if row.heads[0] == 'file of claims':
             yield f'the row of {row.cells[0]} left out', with_line(page, row.line, '')
-            yield f'the row of {row.cells[0]} with `numberOf`', with_line(page, row.line, f'| {row.cells[0]} | `numberOf` |')
+            yield f'the row of {row.cells[0]} with `magic_of`', with_line(page, row.line, f'| {row.cells[0]} | `magic_of` |')
 
 
 def wrong_rules(page):
@@ -112,10 +112,10 @@ def wrong_rules(page):
     yield from wrong_bullets(page)
     yield from wrong_files(page)
     yield from with_ends(page, [
-        '- `Tells.veraTold`, `.nothing`', '- `Tells.veraTold`, `judge`, `.trueTold`', '- `Tells.veraTold`\n- `.trueTold`',
+        '- `Tells.vera_told`, `.nothing`', '- `Tells.vera_told`, `judge`, `.true_told`', '- `Tells.vera_told`\n- `.true_told`',
         '`Keeps nonesuch`', '`refused 2`', '`sum_wraps`', '| edit |\n|---|\n| `sum_wraps` |', '| edit |\n|---|\n| none |',
-        '| claim |\n|---|\n| `magicOf` |',
-        '| definition (layout/specs/Rules.antt) |\n|---|\n| `judge` |', '- definition: none; claim: `magicOf`',
+        '| claim |\n|---|\n| `magic_of` |',
+        '| definition (layout/specs/Rules.antt) |\n|---|\n| `judge` |', '- definition: none; claim: `magic_of`',
         '- definition: `Tells.nothing` (layout/specs/Rules.antt); claim: `Tells`', 'One `name\nin two` lines.'])
 
 
@@ -128,22 +128,24 @@ def with_function(files, contract):
 
 def function_problems(page, files):
     """What the check gets wrong of a function that no row has, and of one with a `requires`."""
-    for contract, sentence in (('', 'no row has'), ('    requires { ⌜ Unit ⌝ }\n', 'has a `requires`')):
+    for contract, sentence in (('', 'no row has'), ('    requires { Unit }\n', 'has a `requires`'),
+                               ('    requires low { Unit }\n    requires high { Unit }\n', 'has a `requires`')):
         found = all_problems(page, read_repository(with_function(files, contract)))
         if not any(sentence in problem for _, problem in found):
             yield f'a public function of which it should say: {sentence}'
 
 
 def wrong_forwards(text):
-    """Sources of the exported functions in which one does not just hand on, or has another contract."""
-    call = 'boundary_access::read(view, image, first, count, buffer, sector)'
+    """Sources of the boundary's functions in which one does not just hand on, or has another contract."""
+    call = re.search(r'\w+::\w*read\(view, image, first, count, buffer, sector\)', text)[0]
     for name, old, new in (
             ('exchanges two parameters', call, call.replace('first, count', 'count, first')),
             ('passes a number', call, call.replace('first,', '0,')),
-            ('calls another function', call, call.replace('::read(', '::read_raw(')),
+            ('calls another function', call, call.replace('read(', 'read_raw(')),
             ('does more than call', call, f'let answer = {call};\n    answer'),
-            ('promises less', '    ensures { λ _. ⌜ now (host .exit) ≡ ', '    ensures { λ _. ⌜ now (host .exit) ≡ id '),
-            ('has a premise', 'ensures { λ r. ⌜ ReadCall ', 'ensures { λ r. ⌜ first ≡ 0 → ReadCall '),
+            ('promises less', '{ host.new ≡ ', '{ host.new ≡ id '),
+            ('has a premise', 'ensures { ReadCall ', 'ensures { first ≡ 0 → ReadCall '),
+            ('has a clause of another name', '    ensures { ReadCall ', '    ensures after { ReadCall '),
             ('has its parameters in another order', 'first: u64,\n    count: u64,\n    buffer: &mut [u8],',
              'count: u64,\n    first: u64,\n    buffer: &mut [u8],')):
         assert old in text, old
@@ -151,11 +153,15 @@ def wrong_forwards(text):
 
 
 def forward_problems(page, files):
-    """What the check gets wrong of exported functions that are not their callees letter by letter."""
-    path = 'crates/ondristela/src/lib.rt'
-    for name, text in wrong_forwards(files[path]):
-        if not any(all_problems(page, read_repository({**files, path: text}))):
-            yield f'an exported function that {name}'
+    """What the check gets wrong of functions of the boundary that are not their callees letter by letter."""
+    for crate in BOUNDARY:
+        path = f'crates/{crate}/src/lib.rt'
+        for name, text in wrong_forwards(files[path]):
+            if not any(all_problems(page, read_repository({**files, path: text}))):
+                yield f'a function of {crate} that {name}'
+        unheard = f'{files[path]}\npub fn unheard() -> u64\n{{\n    layout::nothing()\n}}\n'
+        if not any(all_problems(page, read_repository({**files, path: unheard}))):
+            yield f'a function of {crate} that no row has'
 
 
 def told(repository):
@@ -192,7 +198,7 @@ def rules_unnoticed(page, files):
     for name, text in wrong_rules(page):
         if not any(rules.all_problems(text, repository)):
             yield name
-    if any(rules.all_problems(f'{page}\n```\none `name\n```\n- `Tells.veraTold`,\n  `.trueTold`\n', repository)):
+    if any(rules.all_problems(f'{page}\n```\none `name\n```\n- `Tells.vera_told`,\n  `.true_told`\n', repository)):
         yield 'a fenced block and a `.field`, which are not wrong'
 
 

@@ -15,7 +15,7 @@ from declarations import (HEADER, LAYOUT, NUMBERS, KEYS, RATTLE, RUST, problems,
 
 # The parts of each file that declare something.
 DECLARED = {
-    RATTLE: r'#\[no_mangle\]\npub extern "C" fn \w+\([^)]*\)[^\n]*',
+    RATTLE: r'#\[unsafe\(no_mangle\)\]\npub extern "C" fn \w+\([^)]*\)[^\n]*',
     HEADER: r'\n(?:uint\d+_t|void) ondristela_\w+\([^)]*\);|\nstruct \w+ \{[^}]*\n\};',
     RUST: r'\n +pub fn [^\n]*;|\npub fn \w+\([^)]*\)[^\n]*|\npub type [^\n]*|library::\w+\([^;}]*\)',
     NUMBERS: r'\n(?:pub )?const [^\n]*|\n +numbers\[[^\n]*;|\n +store_layout\([^\n]*;(?=\n +numbers)',

@@ -12,6 +12,11 @@ WRONG = {
     'not_there': ('file: src/lib.rt\nold: { 5 }\nnew: { 6 }\n', ':2: stands 0 times in src/lib.rt'),
     'twice': ('file: src/lib.rt\nold: { 2 }\nnew: { 3 }\n', ':2: stands 2 times in src/lib.rt'),
     'gone': ('file: src/lib.rt\nold: { 1 }\nnew: { 3 }\nold: { 1 }\nnew: { 4 }\n', ':4: stands 0 times in src/lib.rt'),
+    'no_file': ('file: src/gone.rt\nold: { 1 }\nnew: { 3 }\n', ':1: there is no file src/gone.rt'),
+    'elsewhere': ('file: must-fail/fits.edit\nold: { 1 }\nnew: { 5 }\n', ':1: there is no file must-fail/fits.edit'),
+    'same': ('# what\nfile: src/lib.rt\nold: { 1 }\nnew: { 1 }\n', ': it changes nothing'),
+    'no_pair': ('# what\nfile: src/lib.rt\n', ': it changes nothing'),
+    'second_line': ('file: src/lib.rt\nold: { 1 }\nnew: { 3\n}\n', ':4: this line is not read'),
 }
 
 

@@ -15,7 +15,7 @@ from moved import all_items, compare_files, contracts, definitions, present_file
 OLD = {
     'crates/low/specs/Bytes.antt': '''\
 -- Bytes. Assumes nothing.
-use Prim.Native.Nat.{ℕ}
+use Rattle.std.specs.Prelude.{ℕ}
 
 -- stays, though its comment does not
 unfoldable pub kept : ℕ → ℕ
@@ -39,11 +39,11 @@ module _ (n : ℕ) where
     -- a field
     pub field : n ≡ 0
 
-abbrev pub oldName : ℕ → ℕ
-oldName n = n + oldName 3
+abbrev pub old_name : ℕ → ℕ
+old_name n = n + old_name 3
 ''',
     'crates/low/src/lib.rt': '''\
-ghost use mathlib.Core.Path.{_≡_};
+ghost use Rattle.std.specs.Prelude.{◌≡◌};
 
 pub const SIZE: usize = 512;
 
@@ -52,9 +52,17 @@ pub struct Pair {
     pub second: u64, // the second
 }
 
+impl Model for Pair {
+    ghost Value = { ℕ };
+
+    ghost view = { λ p. p.first };
+}
+
 // The first.
 pub fn first(a: u64) -> u64
-    ensures { λ r. ⌜ r ≡ a ⌝ }
+    requires low { 0 ≤ a }
+    requires high { a ≤ 9 }
+    ensures { result ≡ a }
 {
     second(a)
 }
@@ -64,7 +72,7 @@ impl Pair {
         self,
         a: u64,
     ) -> u64
-        ensures { λ r. ⌜ r ≡ a ⌝ }
+        ensures { result ≡ a }
     {
         a
     }
@@ -76,6 +84,9 @@ fn helper() {
     'crates/low/proofs/Laws.antt': 'use A.{a}\n\n-- a law\nlaw : a ≡ a\nlaw = refl\n',
     'crates/low/proofs/Other.antt': 'use A.{a}\n\nother : a ≡ a\nother = refl\n',
     'crates/low/proofs/first/Proof.antt': 'returns : a ≡ a\nreturns = refl\n',
+    'crates/low/proofs/Pair/second/Answers.antt': 'pub returns : goal.returns\nreturns c = search rules\n',
+    'crates/low/proofs/Pair/second/Invariants.antt': 'pub invariant-loop-i : goal.invariant-loop-i\ninvariant-loop-i l = l.a ≤ 9\n',
+    'crates/low/proofs/helper/Answers.antt': 'pub returns : goal.returns\nreturns c = refl\n',
     'crates/low/proofs/Imports.antt': 'use A.{a}\nsame : a ≡ a\n',
     'crates/high/specs/Lib.antt': 'pub mod Rules\n',
 }
@@ -88,17 +99,22 @@ EDITS = [
     ('crates/low/specs/Bytes.antt', 'abbrev pub gone : ℕ\ngone = 2\n', 'abbrev pub new : ℕ → ℕ\nnew n = 2\n'),
     ('crates/low/specs/Bytes.antt', '  unfoldable pub part : ℕ\n  part = n\n', ''),
     ('crates/low/specs/Bytes.antt', '    pub field : n ≡ 0', '    pub field : n ≡ 1'),
-    ('crates/low/specs/Bytes.antt', 'oldName', 'newName'),
+    ('crates/low/specs/Bytes.antt', 'old_name', 'new_name'),
     ('crates/low/src/lib.rt', 'usize = 512', 'usize = 1024'),
-    ('crates/low/src/lib.rt', '        ensures { λ r. ⌜ r ≡ a ⌝ }\n', ''),
+    ('crates/low/src/lib.rt', '        ensures { result ≡ a }\n', ''),
     ('crates/low/src/lib.rt', '// The first.', '// The first of two.'),
     ('crates/low/src/lib.rt', 'second(a)', 'third(a)'),
     ('crates/low/src/lib.rt', 'fn helper() {', 'fn helped() -> u64 {'),
-    ('crates/low/proofs/first/Proof.antt', 'refl', 'cc'),
+    ('crates/low/src/lib.rt', 'p.first }', 'p.second }'),
+    ('crates/low/proofs/Pair/second/Invariants.antt', 'l.a ≤ 9', 'l.a ≤ 8'),
     ('crates/low/proofs/Imports.antt', 'use A', 'use B'),
 ]
 
+# .. and what stands at another place then. Today's files of the proof of a function are compared with its older one.
+LEFT = {'crates/low/proofs/Laws.antt', 'crates/low/proofs/Other.antt', 'crates/low/proofs/first/Proof.antt',
+        'crates/low/proofs/helper/Answers.antt'}
 MOVED = {
+    'crates/low/proofs/first/Answers.antt': 'pub returns : goal.returns\nreturns c = cc\n',
     'crates/high/specs/Rules.antt': 'module _ (n : ℕ) where\n  -- moved\n  unfoldable pub part : ℕ\n  part = n\n',
     'crates/high/proofs/Laws.antt': 'use B.{a}\n\nlaw : a ≡ a\nlaw = refl\n',
     'crates/high/proofs/Other.antt': 'other : a ≡ a\nother = cc\n',
@@ -112,14 +128,14 @@ TOLD = '''\
 - new: low: `new`
 - gone: low: `gone`
 - moved: low/Bytes.antt to high/Rules.antt: `part`
-- renamed: `oldName` of low to `newName`
+- renamed: `old_name` of low to `new_name`
 - stayed, letter by letter: 1 of 6 (high 0 of 1, low 1 of 5)
 - among these: low: `kept`
 
 **Types and constants**
 
-- changed: low: `SIZE`
-- stayed, letter by letter: 1 of 2 (low 1 of 2)
+- changed: low: `Model for Pair::view`, `SIZE`
+- stayed, letter by letter: 2 of 4 (low 2 of 4)
 
 **Public contracts**
 
@@ -134,15 +150,15 @@ TOLD = '''\
 
 **Proofs**
 
-- changed: low: `first`
+- changed: low: `Pair/second`, `first`
 - changed in comments and `use` lines alone: low: `Imports.antt`
+- gone: low: `helper`
 - moved: low to high: `Laws.antt`, `Other.antt` (and changed)
-- stayed, letter by letter: 0 of 4 (high 0 of 2, low 0 of 2)
+- stayed, letter by letter: 0 of 5 (high 0 of 2, low 0 of 3)
 '''
 
 def edited(files):
-    files = {path: text for path, text in files.items() if path not in
-             ('crates/low/proofs/Laws.antt', 'crates/low/proofs/Other.antt')}
+    files = {path: text for path, text in files.items() if path not in LEFT}
     for path, old, new in EDITS:
         assert old in files[path], old
         files[path] = files[path].replace(old, new)

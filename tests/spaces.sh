@@ -11,7 +11,8 @@ mkdir -p "$copy/target" "$work/bin"
 unset CARGO_TARGET_DIR ONDRISTELA_LIB_DIR
 
 "$root/tools/build.sh" library volmap
-tar -C "$root" --exclude=./.git --exclude=./target --exclude=./rust/target -cf - . | tar -C "$copy" -xf -
+tar -C "$root" --exclude=./.git --exclude=./target --exclude=./rust/target --exclude='./crates/*/out' \
+    -cf - . | tar -C "$copy" -xf -
 cp -r "$root"/target/{bin,built,staticlib} "$copy/target"
 cd "$copy"
 

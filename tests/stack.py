@@ -30,6 +30,8 @@ CODE = {
     'a call of the C library': (8 + 8 + 8, 'push %rbx', filled('call', 'memmove'), 'pop %rbx', 'ret'),
     'a call': (8 + 8 + 40, 'push %rbx', filled('call', '.text.a::g'), 'pop %rbx', 'ret'),
     'a call that is filled in': (8 + 40, 'call 0 <a::g>', 'ret'),
+    'a call of a name with a plus': (8 + 24, 'call 0 <a++b::g+drop>', 'ret'),
+    'a jump there': (8 + 16, 'jmp 0 <a++b::g+drop>'),
     'a jump to another function': (8 + 32, filled('jmp', '.text.a::g')),
     'a jump there on one of two paths': (8 + 32, filled('je', '.text.a::g'), 'ret'),
     'a jump there of the other kind': (8 + 32, filled('jmp', '.text.a::g', 'PC32')),
@@ -48,11 +50,16 @@ CODE = {
     'rounded': (None, 'and $0xfffffffffffffff0,%rsp', 'ret'),
     'reserved by a register': (None, 'sub %rax,%rsp', 'ret'),
 }
-# Two functions beside them: one that reserves 32 bytes, and one that calls f.
+# Functions beside them: two that reserve 32 and 16 bytes, and one that calls f.
 BESIDE = f'''\
 0000000000000000 <a::g>:
    0:\tsub $0x20,%rsp
    1:\tadd $0x20,%rsp
+   2:\tret
+
+0000000000000000 <a++b::g+drop>:
+   0:\tsub $0x10,%rsp
+   1:\tadd $0x10,%rsp
    2:\tret
 
 0000000000000000 <h>:

@@ -1,10 +1,10 @@
 #!/bin/sh
 # Runs target/bin/volmap on each tests/volmap/NAME.in and compares what it writes with NAME.out.
-# Run `rt check volmap` first, which proves and builds it. Exits 1 where a case differs.
+# Run `tools/build.sh volmap` first, which proves and builds it. Exits 1 where a case differs.
 set -u
 cd "$(dirname "$0")/.." || exit 2
 program=target/bin/volmap
-[ -x "$program" ] || { echo "$program is not there: run rt check volmap" >&2; exit 2; }
+[ -x "$program" ] || { echo "$program is not there: run tools/build.sh volmap" >&2; exit 2; }
 wrote=$(mktemp) || exit 2
 trap 'rm -f "$wrote"' EXIT
 cases=0 failed=0

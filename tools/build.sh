@@ -1,8 +1,8 @@
 #!/usr/bin/env bash
 # Builds each of these that is missing, or was not built from the sources as they are now:
 #
-#     tools/build.sh NAME..    library    target/staticlib/libondristela.a, proved
-#                              volmap     target/bin/volmap, proved
+#     tools/build.sh NAME..    library    target/staticlib/libondristela.a, proved: crates/ondristela_c, as `rt lib` makes it
+#                              volmap     target/bin/volmap, proved, as `rt run` makes it
 #                              volumes    release/volumes in cargo's folder, rust/target or CARGO_TARGET_DIR
 #
 # target/built/NAME has the digests of the sources and of the file. Tools are asked for only where something is
@@ -17,6 +17,12 @@ fi
 cd "$(dirname "$0")/.."
 cargo_folder=${CARGO_TARGET_DIR:-rust/target}
 
+# made CRATE VERB INPUT OUTPUT: has rt make OUTPUT in the crate's folder out/, for every x86-64 processor and not for
+# those alone that rt takes by itself, and takes it for $file.
+made() {
+    (cd "crates/$1" && rt "$2" --cpu x86-64) <"$3" && mkdir -p "$(dirname "$file")" && cp -- "crates/$1/out/$4" "$file"
+}
+
 # describe NAME: its file, what it is built from and by, and what is said meanwhile.
 describe() {
     sources=(crates.txt crates/*/src crates/*/specs crates/*/proofs)
@@ -25,13 +31,16 @@ describe() {
         file=target/staticlib/libondristela.a
         work="proving and building $file, which takes minutes the first time"
         tools=(rt)
-        command=(rt staticlib ondristela)
+        command=(made ondristela_c lib /dev/null libondristela_c.a)
+        named='rt lib in crates/ondristela_c'
         ;;
     volmap)
         file=target/bin/volmap
         work="proving and building $file, which takes minutes the first time"
         tools=(rt)
-        command=(rt check volmap)
+        # There is no command that builds a program and does not run it: this runs it on its own sample.
+        command=(made volmap run crates/volmap/stdin volmap)
+        named='rt run in crates/volmap'
         ;;
     volumes)
         file=$cargo_folder/release/volumes
@@ -40,6 +49,7 @@ describe() {
         tools=(cargo cc)
         command=(cargo build --quiet --release --offline --manifest-path rust/Cargo.toml
             --target-dir "$cargo_folder" -p volumes)
+        named=${command[*]}
         ;;
     *)
         echo "tools/build.sh: $1 is none of library, volmap, volumes" >&2
@@ -65,7 +75,7 @@ build() {
     if ! "${command[@]}" >"target/$1.log" 2>&1; then
         cat "target/$1.log" >&2
         rm -f "$file"
-        echo "$file was not built: ${command[*]} failed" >&2
+        echo "$file was not built: $named failed" >&2
         return 1
     fi
     record "$before" >"target/built/$1"

@@ -10,17 +10,15 @@ from collections import namedtuple
 # A change: the line that it is in, what stands there, and what is put in its place; and whether it is at one argument.
 Change = namedtuple('Change', 'line old new at_one text')
 
-OPERATORS = [('leb ', 'ltb '), ('ltb ', 'leb '), (' && ', ' || '), (' || ', ' && '), (' + ', ' * '), (' - ', ' + '),
+OPERATORS = [('leb ', 'ltb '), ('ltb ', 'leb '), ('nat_le ', 'nat_lt '), ('nat_lt ', 'nat_le '), (' && ', ' || '), (' || ', ' && '), (' + ', ' * '), (' - ', ' + '),
              (' * ', ' + '), (' / ', ' % '), (' % ', ' / '), ('true', 'false'), ('false', 'true'), ('not (', '('),
-             ('bigEndian ', 'littleEndian '), ('littleEndian ', 'bigEndian '), ('take ', 'drop '), ('drop ', 'take ')]
+             ('big_endian ', 'little_endian '), ('little_endian ', 'big_endian '), ('take ', 'drop '), ('drop ', 'take ')]
 
 # Where the names that a change brings in come from.
-HOMES = {'leb': 'lib.Dec', 'ltb': 'lib.Dec', 'eqb': 'lib.Dec', '_&&_': 'mathlib.Core.Bool', '_||_': 'mathlib.Core.Bool',
-         'true': 'mathlib.Core.Bool', 'false': 'mathlib.Core.Bool', 'not': 'mathlib.Core.Bool',
-         'cond': 'mathlib.Core.Bool', '_+_': 'Prim.Native.Nat', '_*_': 'Prim.Native.Nat', '_/_': 'Prim.Native.Nat',
-         '_%_': 'Prim.Native.Nat', 'suc': 'Prim.Native.Nat', 'take': 'lib.ListN', 'drop': 'lib.ListN',
-         'getD': 'lib.ListN', '[]': 'mathlib.Core.List', '_∷_': 'mathlib.Core.List', 'List': 'mathlib.Core.List',
-         'bigEndian': 'Rattle·numbers.specs.Numbers', 'littleEndian': 'Rattle·numbers.specs.Numbers'}
+PRELUDE = ('leb ltb eqb nat_le nat_lt ◌==◌ ◌&&◌ ◌||◌ true false not cond ◌+◌ ◌-◌ ◌*◌ ◌/◌ ◌%◌ suc take drop get_or [] ◌∷◌ '
+           'List').split()
+HOMES = {**dict.fromkeys(PRELUDE, 'Rattle.std.specs.Prelude'),
+         'big_endian': 'Rattle.numbers.specs.Numbers', 'little_endian': 'Rattle.numbers.specs.Numbers'}
 
 PASSED_OVER = re.compile(r'^\s*(--|use |pub mod|pub record|pub data|module)')
 
@@ -40,7 +38,7 @@ def line_changes(line):
             yield match.start(), old, new
     for match in re.finditer(r'(?<![\w.«])(0x[0-9A-Fa-f]+|\d+)(?![\w.])', line):
         yield match.start(), match[1], str(int(match[1], 0) + 1)
-    for match in re.finditer(r'(?:leb|ltb|eqb) [^&|=]*? && ', line):
+    for match in re.finditer(r'(?:(?:leb|ltb|eqb|nat_le|nat_lt) [^&|=]*?|(?:[\w.]+|\([^()]*\)) == (?:[\w.]+|\([^()]*\))) && ', line):
         yield match.start(), match[0], ''
 
 
@@ -82,9 +80,9 @@ def other_value(kind, name):
         if re.search('(?i)size|start|end|host', name):
             yield f'eqb {name} 1048576', f'suc {name}'
     if kind == 'List ℕ':
-        yield f'eqb (getD {name} 0 0) 1', f'0 ∷ drop 1 {name}'
+        yield f'eqb (get_or {name} 0 0) 1', f'0 ∷ drop 1 {name}'
     if kind in ('Words', 'List (List ℕ)'):
-        yield f'eqb (getD (getD {name} 0 []) 0 0) 1', f'[] ∷ drop 1 {name}'
+        yield f'eqb (get_or (get_or {name} 0 []) 0 0) 1', f'[] ∷ drop 1 {name}'
 
 
 def bodies_at_one(names, types, body):
@@ -96,7 +94,7 @@ def bodies_at_one(names, types, body):
             yield f'cond ({test}) (let other : {kind} = {other} in let {name} : {kind} = other in {body}) ({body})'
         if kind == 'Layout' and types[-1] in ('ℕ', 'Bool'):
             changed = f'suc ({body})' if types[-1] == 'ℕ' else f'not ({body})'
-            yield f'cond (eqb ({name} .candidate) 1) ({changed}) ({body})'
+            yield f'cond (eqb {name}.candidate 1) ({changed}) ({body})'
 
 
 def equations(text):
@@ -132,8 +130,8 @@ def with_imports(text, crate):
     stated = '\n'.join(line for line in text.split('\n') if not PASSED_OVER.match(line))
     there = imported(text) | set(re.findall(r'^ *(?:unfoldable|abbrev) pub (\S+) :', text, re.M))
     missing = [name for name in HOMES if name not in there and re.search(
-        rf'(?<![\w-]){re.escape(name.strip("_"))}(?![\w-])' if name[0].isalpha() else re.escape(name.strip('_')), stated)]
-    uses = ''.join(f'use {HOMES[name]}.{{{name}}}\n' for name in missing if f'Rattle·{crate}.' not in HOMES[name])
+        rf'(?<![\w-]){re.escape(name)}(?![\w-])' if name[0].isalpha() else re.escape(name.replace('◌', ' ')), stated)]
+    uses = ''.join(f'use {HOMES[name]}.{{{name}}}\n' for name in missing if f'Rattle.{crate}.' not in HOMES[name])
     first = re.search(r'^use ', text, re.M)
     at = first.start() if first else len(text)
     return text[:at] + uses + text[at:]

@@ -10,9 +10,10 @@ A table whose first head is "call" has a row for each public function: the funct
 equals, where each name is one that its contract cites; and last its must-fail edits, at least two of its own
 crate. No public function has a `requires`.
 
-A table whose first head is "exported function" has a row for each exported function, and beside it the function
-that it hands on to: its contract, its parameters and their order are that one's letter by letter, and its body
-is the call with these parameters. So the edits of that function are enough for both.
+A table whose first head is "exported function" has a row for each function that the static library exports, and
+beside it the function that it hands on to, by way of the library's function of the crate that Rattle crates call:
+at each step contract, parameters and their order are the next one's letter by letter, and the body is the call with
+these parameters. So the edits of that last function are enough for all.
 
 In another table, a column that has "edit" or "edits" in its head has nothing but edits, and one that has
 "field of `Record`" nothing but fields of that record and names with a dot or slash. Each field of the record
@@ -29,7 +30,9 @@ from named import (CLAIMING, CLAIMS, ROOT, STATING, exists, is_claim_edit, is_ed
                    read_repository, rows, unended_problems)
 
 PAGE = 'docs/CLAIMS.md'
-BOUNDARY = 'ondristela'
+# The crate of the static library, and the one whose functions Rattle crates call in the place of its exports.
+EXPORTING = 'ondristela_c'
+BOUNDARY = ('ondristela', EXPORTING)
 
 # What is not counted by hand.
 COUNTED = ('edits functions calls theorems laws definitions records fields claims contracts proofs crates '
@@ -85,7 +88,7 @@ def name_problems(page, repository):
 def called(row):
     """The function of a row, as `crate::name`."""
     name = row.cells[0].strip('`')
-    return f'{BOUNDARY}::{name}' if row.heads[0] == 'exported function' else name
+    return f'{EXPORTING}::{name}' if row.heads[0] == 'exported function' else name
 
 
 def row_problems(row, function, crate, repository):
@@ -106,13 +109,32 @@ def row_problems(row, function, crate, repository):
         yield f'fewer than two must-fail edits of {crate} stand beside {row.cells[0]}'
 
 
-def forward_problems(row, function, functions):
-    """What an exported function is other than a call of the function beside it, with its contract."""
-    other = row.cells[-1].strip('`')
-    if function.hands_on != other:
+def handing_on(name, functions):
+    """A function of the boundary and those of the boundary that it hands on to, in turn."""
+    names = []
+    while name in functions and functions[name][0] in BOUNDARY and name not in names:
+        names.append(name)
+        name = functions[name][1].hands_on
+    return names
+
+
+def forwarders(row, functions):
+    """What a row of exported functions is about: the exported one, and the one that Rattle crates call in its place."""
+    name = called(row)
+    steps = handing_on(name, functions)
+    return dict.fromkeys(steps + [other for crate in BOUNDARY if (other := f'{crate}::{name.partition("::")[2]}') in functions])
+
+
+def forward_problems(row, name, functions):
+    """What a function of the boundary is other than a call, step by step, of the function beside it, with its contract."""
+    function, other = functions[name][1], row.cells[-1].strip('`')
+    goal = functions.get(function.hands_on)
+    if goal is None or goal[0] not in BOUNDARY and function.hands_on != other:
         yield f'the body at {function.place} is not the call of `{other}` with the parameters in their order'
-    elif other not in functions or function.contract != functions[other][1].contract:
-        yield f'the contract at {function.place} is not that of `{other}`, letter by letter'
+    elif function.contract != goal[1].contract:
+        yield f'the contract at {function.place} is not that of `{function.hands_on}`, letter by letter'
+    elif goal[0] in BOUNDARY and goal[1].hands_on == name:
+        yield f'the body at {function.place} comes back to itself'
 
 
 def call_problems(page, repository):
@@ -126,8 +148,11 @@ def call_problems(page, repository):
             yield row.line, f'{row.cells[0]} is no public function'
             continue
         crate, function = functions[name]
-        found = (forward_problems(row, function, functions) if crate == BOUNDARY
-                 else row_problems(row, function, crate, repository))
+        if crate in BOUNDARY:
+            listed.update(forwarders(row, functions))
+            found = [sentence for other in forwarders(row, functions) for sentence in forward_problems(row, other, functions)]
+        else:
+            found = row_problems(row, function, crate, repository)
         yield from ((row.line, sentence) for sentence in found)
     end = page.count('\n') + 1
     for name, (_, function) in sorted(functions.items()):

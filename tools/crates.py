@@ -21,8 +21,9 @@ Crate = namedtuple('Crate', 'needs holds')
 
 
 def parse(text):
-    """The crates of crates.txt by name, in order; what they need besides is the toolchain's."""
-    lines = re.findall(r'^(\w+):([^#\n]*)(?:# *(.*))?$', text, re.M)
+    """The crates of crates.txt by name, in order, whatever stands behind a name, as `staticlib`; what they need besides is
+    the toolchain's."""
+    lines = re.findall(r'^(\w+)\b[^:#\n]*:([^#\n]*)(?:# *(.*))?$', text, re.M)
     names = {name for name, _, _ in lines}
     return {name: Crate([need for need in needs.split() if need in names], holds) for name, needs, holds in lines}
 

@@ -2,7 +2,7 @@
 """Holds the declarations of the exported functions against each other.
 
     tools/declarations.py    fail where include/ondristela.h or rust/src/raw.rs does not declare
-                             what crates/ondristela/src/lib.rt exports
+                             what crates/ondristela_c/src/lib.rt exports
 
 What Rattle declares is what is proved. C and Rust must have the same functions, answers and arguments, by
 name and in order. A slice `image` is a pointer, to const where it is only read, and a length `image_size`. An
@@ -17,7 +17,7 @@ from functools import cache
 from pathlib import Path
 
 ROOT = Path(__file__).resolve().parent.parent
-RATTLE = 'crates/ondristela/src/lib.rt'
+RATTLE = 'crates/ondristela_c/src/lib.rt'
 NUMBERS = 'crates/boundary_numbers/src/lib.rt'
 KEYS = 'crates/boundary_keys/src/lib.rt'
 LAYOUT = 'crates/layout/src/lib.rt'
@@ -81,7 +81,7 @@ def strays(path, text, pattern, matches):
 # Rattle.
 
 def rattle_matches(text):
-    signature = r'^#\[no_mangle\]\npub (extern "C" fn) (\w+)\(([^)]*)\)(?: -> ([^\n{]+))?'
+    signature = r'^#\[unsafe\(no_mangle\)\]\npub (extern "C" fn) (\w+)\(([^)]*)\)(?: -> ([^\n{]+))?'
     return list(re.finditer(signature, text, re.M))
 
 
@@ -329,7 +329,7 @@ def struct_problems(header, numbers, opening, layout):
 
 @cache
 def rattle_problems(rattle):
-    return list(strays(RATTLE, rattle, r'#\[no_mangle\]|extern "C"', rattle_matches(rattle)))
+    return list(strays(RATTLE, rattle, r'#\[[^\n]*no_mangle|extern "C"', rattle_matches(rattle)))
 
 
 @cache

@@ -9,9 +9,10 @@ The seconds of such a note are seconds.py's.
 
 Compared are
 - definitions: each declaration of specs/, with the heads of the sections that it stands in, without comments;
-- types and constants: each struct, enum and const of src/;
+- types and constants: each struct, enum and const of src/, and each ghost item of an impl or a trait;
 - contracts: each function of src/, from its attributes to its last `ensures`;
-- proofs: each file of proofs/.
+- proofs: each file of lemmas in proofs/, and of each function the files of its proof together (Invariants, Answers and
+  Proof); a function whose proof the prover finds has none.
 White space counts nowhere but in proofs. A definition, contract or proof of the same name in another file was moved,
 and one of the same text under another name renamed. Of a moved proof, comments and `use` lines are passed over.
 """
@@ -46,7 +47,8 @@ def committed_files(revision):
 
 
 def present_files():
-    paths = (str(path.relative_to(ROOT)) for path in (ROOT / 'crates').rglob('*.*'))
+    paths = (str(path.relative_to(ROOT)) for folder in ('src', 'specs', 'proofs')
+             for path in ROOT.glob(f'crates/*/{folder}/**/*.*'))
     return {path: (ROOT / path).read_text() for path in sorted(paths) if is_compared(path)}
 
 
@@ -96,15 +98,28 @@ def definitions(text):
 
 def types(text):
     """The structs, enums and constants of a source file."""
-    item = r'^(?:pub )?(?:(?:struct|enum) (\w+) \{.*?^\}|const (\w+):.*?;$)'
-    return {match[1] or match[2]: folded(match[0]) for match in re.finditer(item, uncommented(text, '//'), re.M | re.S)}
+    item = r'^(?:pub )?(?:(?:struct|enum) (\w+)(?:<[^>]*>)? \{.*?^\}|const (\w+):.*?;$)'
+    found = {match[1] or match[2]: folded(match[0]) for match in re.finditer(item, uncommented(text, '//'), re.M | re.S)}
+    return {**found, **ghosts(text)}
+
+
+def ghosts(text):
+    """The ghost items of impls and traits, as the view and the invariant of a model, with their type before them."""
+    item = r'^(?:pub )?(?:impl|trait)\b(?P<head>[^\n]*)|^ +ghost (?P<name>\w+)[ :].*?;$'
+    found, owner = {}, ''
+    for match in re.finditer(item, uncommented(text, '//'), re.M | re.S):
+        if match['name'] is None:
+            owner = re.sub(r'<[^>]*>|\bwhere\b.*|\{.*', '', match['head']).strip()
+        else:
+            found[f'{owner}::{match["name"]}'] = folded(match[0])
+    return found
 
 
 def contracts(text):
     """The functions of a source file, methods with their type before them."""
     head = r'(?:#\[[^\n]*\]\n *)*(?:(?:pub|const|unsafe|extern "C") )*fn (?P<name>\w+)'
     function = rf'^(?P<indent> *)(?P<contract>{head}.*?)(?: \{{|\n(?P=indent)\{{\}}?)$'
-    owner = r'^impl(?:<[^>]*>)? (?P<owner>\w+)'
+    owner = r'^(?:impl(?:<[^>]*>)?|(?:pub )?trait) (?P<owner>\w+)'
     found, before = {}, ''
     for match in re.finditer(f'{owner}|{function}', uncommented(text, '//'), re.M | re.S):
         if match['owner']:
@@ -120,6 +135,23 @@ def is_public(contract):
 
 def proof_core(text):
     return folded(re.sub(r'^use .*$', '', uncommented(text, '--'), flags=re.M))
+
+
+def proof_name(file):
+    """The function that a file is a part of the proof of, or the file of lemmas."""
+    return re.sub(r'/(?:Invariants|Answers|Proof)\.antt$', '', file)
+
+
+def proofs(files):
+    """The proofs of functions and the files of lemmas."""
+    found = {}
+    for path, text in sorted(files.items()):
+        _, crate, kind, file = path.split('/', 3)
+        if kind == 'proofs':
+            name = proof_name(file)
+            whole, core = found.get(Item(crate, name, name), Text('', ''))
+            found[Item(crate, name, name)] = Text(whole + text, core + proof_core(text))
+    return found
 
 
 def items_of(files, folder, read):
@@ -142,14 +174,14 @@ def all_items(files):
         'private contracts': {item: text for item, text in functions.items() if not is_public(text)},
     }
     found = {sort: {item: Text(text, text) for item, text in items.items()} for sort, items in sorts.items()}
-    return {**found, 'proofs': items_of(files, 'proofs', lambda file, text: {file: Text(text, proof_core(text))})}
+    return {**found, 'proofs': proofs(files)}
 
 
 # What became of them.
 
 def own_name(item):
     """The name that a text has for itself."""
-    return re.split('::', item.name.removesuffix('/Proof.antt').removesuffix('.antt'))[-1].split('/')[-1]
+    return re.split('::', item.name.removesuffix('.antt'))[-1].split('/')[-1]
 
 
 def nameless(item, text):
@@ -204,7 +236,7 @@ def quoted(names):
 def by_crate(items):
     crates = defaultdict(list)
     for item in sorted(items):
-        crates[item.crate].append(item.name.removesuffix('/Proof.antt'))
+        crates[item.crate].append(item.name)
     return '; '.join(f'{crate}: {quoted(sorted(names))}' for crate, names in crates.items())
 
 
@@ -213,7 +245,7 @@ def moves(pairs):
     ways = defaultdict(list)
     for old, new, same in pairs:
         ends = [item.crate if item.name == item.file else f'{item.crate}/{item.file}' for item in (old, new)]
-        ways[tuple(ends)].append(f'`{old.name.removesuffix("/Proof.antt")}`{"" if same else " (and changed)"}')
+        ways[tuple(ends)].append(f'`{old.name}`{"" if same else " (and changed)"}')
     return '; '.join(f'{old} to {new}: {", ".join(sorted(names))}' for (old, new), names in sorted(ways.items()))
 
 

@@ -164,7 +164,7 @@ def read_files():
     """Every file of the repository by its path, with the texts of code, specs and proofs."""
     files = {}
     for folder, folders, names in os.walk(ROOT):
-        folders[:] = [name for name in folders if name not in ('.git', 'target', '__pycache__')]
+        folders[:] = [name for name in folders if name not in ('.git', 'target', 'out', '__pycache__')]
         for path in (Path(folder) / name for name in names):
             files[str(path.relative_to(ROOT))] = path.read_text() if path.suffix in ('.rt', '.antt') else ''
     return files

@@ -31,6 +31,8 @@ from named import CLAIMING
 
 ROOT = Path(__file__).resolve().parent.parent
 TOPS = ('guarantees', 'worked_cases')
+# The files of a function's proof.
+PROOFS = ('Invariants.antt', 'Answers.antt', 'Proof.antt')
 # What the claims, and the laws that they are proved by, are said in: no contract cites it.
 LAWS = {'model', 'header_laws', 'field_laws', 'mix_laws', 'cipher_laws'}
 
@@ -41,7 +43,7 @@ Result = namedtuple('Result', 'place verdict by')
 # The crates, and their order.
 
 def read_crates(root):
-    rows = re.findall(r'^(\w+):([^#\n]*)', (root / 'crates.txt').read_text(), re.M)
+    rows = re.findall(r'^(\w+)\b[^:#\n]*:([^#\n]*)', (root / 'crates.txt').read_text(), re.M)
     return {name: rest.split() for name, rest in rows}
 
 
@@ -72,44 +74,36 @@ def above(crates, order, name):
 
 def without_functions(text):
     """A source file with its types and constants alone."""
-    text = re.sub(r'^(ghost use |#\[no_mangle\]|use \w+::[a-z_]+;).*\n', '', text, flags=re.M)
-    return re.sub(r'^(pub )?(extern "C" )?(fn|impl)\b.*?(^\}|\{\})\n', '', text, flags=re.M | re.S)
+    text = re.sub(r'^(?:pub )?(?:(?:extern "C" )?fn|impl)\b.*?(?:^\}|\{\})\n', '\n', text, flags=re.M | re.S)
+    # Attributes of what is gone, and imports that only its clauses and bodies need.
+    text = re.sub(r'^#\[[^\n]*\]\n(?=(?://[^\n]*\n)*\n)', '', text, flags=re.M)
+    gone = r'use \w+::(?:[a-z_]+|\{[a-z_, ]+\});' if re.search(r'\bghost \w+:', text) else r'(?:ghost use |use \w+::[a-z_]+;)'
+    return re.sub(rf'^{gone}.*\n', '', text, flags=re.M)
 
 
 def copy_without_code(folder, order):
     for name in order:
         source, target = ROOT / 'crates' / name, folder / 'crates' / name
-        shutil.copytree(source, target, ignore=shutil.ignore_patterns('must-fail'))
+        shutil.copytree(source, target, ignore=shutil.ignore_patterns('must-fail', 'out'))
         if name in TOPS:
             continue
-        for path in target.glob('src/*.rt'):
+        for path in target.glob('src/**/*.rt'):
             path.write_text(without_functions(path.read_text()))
-        for proof in list(target.glob('proofs/**/Proof.antt')):
-            shutil.rmtree(proof.parent)
+        for proof in {path.parent for name in PROOFS for path in target.glob(f'proofs/**/{name}')}:
+            shutil.rmtree(proof)
+    (folder / 'crates.txt').write_text(''.join(f'{name}: {" ".join(read_crates(ROOT)[name])}\n' for name in order))
 
 
-# The prover, as `rt` calls it: a crate at a time, so that the first refusal ends a try.
+# The prover: `rt lib` of a crate at a time, so that the first refusal ends a try.
 
 class Prover:
     def __init__(self, crates):
-        home = Path(subprocess.run(['rt', 'doc'], check=True, capture_output=True, text=True).stdout.strip()).parents[1]
-        self.own = home / 'on' / os.uname().machine
-        self.words = ['--antt-project', home / 'logic/antt-project.json', '--logic-built', self.own / 'logic-built']
         self.crates = crates
-
-    def library(self, folder, name):
-        built = folder / 'rlib' / f'{name}.rlib'
-        return built if name in self.crates else self.own / 'rlib' / f'{name}.rlib'
 
     def build(self, folder, name):
         """Proves a crate; what the prover says."""
-        externs = [word for other in ('std', *self.crates[name])
-                   for word in ('--extern', f'{other}={self.library(folder, other)}')]
-        target = self.library(folder, name)
-        shutil.rmtree(target, ignore_errors=True)
-        run = subprocess.run([self.own / 'bin/rattle', 'build', '--crate-name', name, folder / f'crates/{name}/src/lib.rt',
-                              *externs, '-L', f'dependency={folder}/rlib', '-L', f'dependency={self.own}/rlib',
-                              *self.words, '-o', target], capture_output=True, text=True)
+        run = subprocess.run(['rt', 'lib', '--jobs', '1'], cwd=folder / 'crates' / name, stdin=subprocess.DEVNULL,
+                             capture_output=True, text=True)
         return run.stdout + run.stderr
 
 
@@ -119,15 +113,21 @@ def is_proved(said):
 
 def is_unread(said):
     """Whether the first error is in a definition, and so no proof's."""
-    error = re.search(r'^(\S+?):\d+:\d+: error', said, re.M)
-    return error is None or '/specs/' in error[1]
+    error = re.search(r'^(?:note: )?(\S+?):\d+:\d+:(?: error)?', said, re.M)
+    return error is None or re.search(r'(^|/)specs/', error[1]) is not None
 
 
 # The tries.
 
-def copy_links(source, target):
-    """A folder whose files are those of another: what is built is never written over, but removed first."""
-    shutil.copytree(source, target, symlinks=True, copy_function=os.link)
+def link_or_copy(source, target):
+    """What was proved is never written over, but replaced; the rest is copied."""
+    (os.link if source.endswith('.oantt') else shutil.copy2)(source, target)
+
+
+def copy_built(source, target):
+    """What rt left in a crate's folder out/."""
+    shutil.rmtree(target, ignore_errors=True)
+    shutil.copytree(source, target, symlinks=True, copy_function=link_or_copy)
 
 
 def places(folder, names, sort):
@@ -153,8 +153,7 @@ def tried(prover, folder, pristine, order, place):
     finally:
         path.write_text(kept)
         for name in built:
-            shutil.rmtree(folder / f'rlib/{name}.rlib', ignore_errors=True)
-            copy_links(pristine / f'rlib/{name}.rlib', folder / f'rlib/{name}.rlib')
+            copy_built(pristine / f'crates/{name}/out', folder / f'crates/{name}/out')
 
 
 def by_cost(crates, order, seconds):
@@ -170,7 +169,6 @@ def by_cost(crates, order, seconds):
 def make_base(prover, pristine, order):
     """Proves the crates without code, and keeps the seconds of each."""
     copy_without_code(pristine, order)
-    (pristine / 'rlib').mkdir()
     with open(pristine / 'seconds', 'w') as seconds:
         for name in order:
             began = time.time()
@@ -184,7 +182,7 @@ def run(names, sort, jobs, base, report):
     crates = read_crates(ROOT)
     order = below(crates, TOPS)
     prover = Prover({name: crates[name] for name in order})
-    with tempfile.TemporaryDirectory(dir=base or ('/dev/shm' if os.access('/dev/shm', os.W_OK) else None)) as room:
+    with tempfile.TemporaryDirectory(dir=base) as room:
         pristine = Path(base or room, 'pristine')
         if not (pristine / 'seconds').exists():
             make_base(prover, pristine, order)
@@ -193,8 +191,7 @@ def run(names, sort, jobs, base, report):
         folders = Queue()
         for number in range(jobs):
             folder = Path(room, f'job{number}')
-            shutil.copytree(pristine / 'crates', folder / 'crates')
-            copy_links(pristine / 'rlib', folder / 'rlib')
+            shutil.copytree(pristine, folder, symlinks=True, copy_function=link_or_copy)
             folders.put(folder)
 
         def one(place):

@@ -16,7 +16,7 @@ from collections import namedtuple
 import marked
 
 LIBRARY = 'target/staticlib/libondristela.a'
-EXPORTED = 'crates/ondristela/src/lib.rt'
+EXPORTED = 'crates/ondristela_c/src/lib.rt'
 PAGE = 'docs/PERFORMANCE.md'
 MARKERS = ('<!-- stack: written by tools/stack.py -->\n', '<!-- /stack -->\n')
 LIMIT = 1024
@@ -60,7 +60,7 @@ def goal(function, name, operands, filled):
         return ''
     if filled:
         return filled.removesuffix('-0x4').removeprefix('.text.')
-    target = re.search(r'<([^+]+)(?:\+0x[0-9a-f]+)?>$', operands)
+    target = re.search(r'<(.+?)(?:\+0x[0-9a-f]+)?>$', operands)
     return target[1] if target and (target[1] != function or name == 'call') else ''
 
 

@@ -20,7 +20,7 @@ MARKERS = ('/* version: written by tools/version.py from rust/Cargo.toml */\n', 
 
 # The header is written here, the lock file by cargo, and the changelog tells which version brought what.
 WRITTEN = {SOURCE, HEADER, 'rust/Cargo.lock', 'docs/CHANGELOG.md'}
-PASSED_OVER = {'.git', 'target', '__pycache__'}
+PASSED_OVER = {'.git', 'target', 'out', '__pycache__'}
 
 
 def version(text):
