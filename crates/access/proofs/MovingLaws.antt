@@ -4,7 +4,7 @@ use Prim.Native.Nat.{ℕ, ◌+◌, ◌-◌, ◌*◌, ◌≤◌}
 use native.Mathlib.Omega.{arith}
 use native.Mathlib.Nat.{add-sub_cancel_left, zero-add}
 use mathlib.Core.{Path.{◌≡◌, refl, ap, ◌∙◌}, Bool.false, List.{List, append-nil}}
-use lib.{ListN.{length, take, drop, drop_of_length-le, length-take, length-drop}, Seq.length-take-le}
+use lib.{ListN.{length, take, drop, drop_of_length-le, length-drop}, Seq.length-take-le}
 use Rattle.answers.specs.{Answers.is_accepted, declared.Answer.{Answer, TheVariants.Accepted}}
 use Rattle.fields.specs.Bytes.{overlay}
 use Rattle.copy.{specs.Copy.copied, proofs.CopyLaws.copied_fits}

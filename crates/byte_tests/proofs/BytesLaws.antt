@@ -1,10 +1,9 @@
 -- The tests of bytes one byte at a time, as a loop over an index goes through them.
 -- Assumes nothing.
-use Prim.Native.Nat.{ℕ, zero, suc, ◌+◌, ◌-◌, ◌≤◌, ◌<◌, min}
-use native.Mathlib.Nat.{zero-min, min-zero, suc-min-suc, add-sub_cancel_left}
+use Prim.Native.Nat.{ℕ, suc, ◌+◌, ◌≤◌, ◌<◌}
 use native.Mathlib.Numerals.{add-one}
 use mathlib.Core.{Path.{◌≡◌, refl, sym, ap, ap₂}, Bool.{Bool, true, false, ◌&&◌, and-false, true≢false}, List.{List, [], ◌∷◌}}
-use lib.{Dec.eqb, ListN.{length, get_or, take, drop, replicate, length-drop, drop_of_length-le}, Seq.drop-cons}
+use lib.{Dec.eqb, ListN.{length, get_or, drop, replicate, drop_of_length-le}, Seq.drop-cons}
 use borrow.Author.Tests.{eqb-true}
 use Rattle.byte_tests.specs.Tests.{same_bytes, all_zero}
 

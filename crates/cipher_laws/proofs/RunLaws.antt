@@ -1,7 +1,7 @@
 -- Units one behind the other come back from a form that another form undoes. Assumes nothing.
 use Prim.Native.Nat.{ℕ, zero, suc, ◌*◌}
 use native.Mathlib.Omega.{arith}
-use mathlib.Core.{Path.{◌≡◌, refl, ap, ap₂, ◌∙◌}, List.{List, [], ◌∷◌, ◌++◌}}
+use mathlib.Core.{Path.{◌≡◌, refl, ap₂, ◌∙◌}, List.{List, [], ◌∷◌, ◌++◌}}
 use lib.{ListN.{length, take, drop, length-drop, take-append-drop}, Seq.{length-take-le, take_at, drop_at}}
 use Rattle.bits.specs.Bits.{Bytes}
 use Rattle.bits.proofs.BytesLaws.{bytes_take, bytes_drop}

@@ -5,7 +5,7 @@ use native.Mathlib.Omega.{arith}
 use mathlib.Core.{Path.{◌≡◌, refl, sym, ap, ◌∙◌}, Bool.{Bool, true, false, cond}, List.{List, [], ◌∷◌, ◌++◌}}
 use lib.{Dec.{ltb, eqb}, ListN.{length, get_or, set, take, drop}, Seq.{get_or-set_same, get_or-set_other, set_split, drop-length}}
 use borrow.Author.Tests.{ltb-true}
-use Rattle.answers.specs.{Answers.{answer_refusal, locked_after}, declared.Answer.{Answer, TheVariants.{Accepted, Refused}}}
+use Rattle.answers.specs.{Answers.{answer_refusal, locked_after}, declared.Answer.{Answer}}
 use Rattle.layout.specs.declared.Layout.{Layout}
 use Rattle.protection.specs.declared.Protection.{Protection, TheVariants.{Unprotected, Protected}}
 use Rattle.view.specs.{declared.View.View, Outcomes.after}

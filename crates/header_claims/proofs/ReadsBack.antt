@@ -6,7 +6,7 @@ use lib.ListN.{length, replicate}
 use borrow.Author.Tests.{leb-true}
 use Rattle.fields.specs.Bytes.{part}
 use Rattle.byte_tests.specs.Tests.{same_bytes, all_zero}
-use Rattle.layout.specs.declared.{Layout.Layout, Opened.{Opened, TheVariants.Accepted}}
+use Rattle.layout.specs.declared.{Opened.{Opened, TheVariants.Accepted}}
 use Rattle.header_format.specs.Format.{magic_number}
 use Rattle.opening.specs.Opening.{opened}
 use Rattle.key_bytes.specs.KeyBytes.{keys_offset, keys_size, KeyBytes}

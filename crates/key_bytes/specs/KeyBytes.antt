@@ -2,7 +2,7 @@
 use Rattle.std.specs.Prelude.{ℕ, ◌+◌, ◌*◌}
 use mathlib.Core.{Path.◌≡◌, List.List}
 use Rattle.fields.specs.Bytes.{part}
-use Rattle.layout.specs.declared.{Opened.{Opened, TheVariants.{Accepted, Refused}}, Layout.Layout}
+use Rattle.layout.specs.declared.{Opened.{Opened, TheVariants.{Accepted, Refused}}}
 use Rattle.header_format.specs.Format.{header_bytes, keys_field}
 
 -- where the key bytes stand in the candidates: in their field of the accepted one, and at the start where opening refuses

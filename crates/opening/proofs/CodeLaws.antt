@@ -4,7 +4,7 @@ use Prim.Native.Nat.{ℕ, zero, suc, ◌+◌, ◌≤◌, ◌<◌}
 use native.Mathlib.Nat.{not-suc-le-zero, le_of_suc-le-suc}
 use native.Mathlib.Numerals.{add-one}
 use native.Mathlib.Omega.{arith}
-use mathlib.Core.{Path.{◌≡◌, refl, sym, ap, ◌∙◌}, Bool.{Bool, true, false, ◌&&◌, and_assoc, and-true}, List.{List, [], ◌∷◌}}
+use mathlib.Core.{Path.{◌≡◌, refl, sym}, Bool.{Bool, true, false, ◌&&◌, and_assoc, and-true}, List.{List, [], ◌∷◌}}
 use lib.{Dec.leb, ListN.{length, get_or, drop, drop_of_length-le}, Seq.drop-cons}
 use borrow.Author.Tests.{leb-true, le-leb}
 use Rattle.layout.proofs.RuleLaws.{and_true_left, and_true_right}

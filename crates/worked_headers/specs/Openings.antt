@@ -3,7 +3,7 @@ use Rattle.std.specs.Prelude.{ℕ, ◌-◌, ◌/◌, ◌^◌, List, [], ◌∷�
 use Rattle.bits.specs.Cases.{Rows}
 use Rattle.numbers.specs.Numbers.{big_endian_bytes}
 use Rattle.crc32.specs.Crc32.{crc32}
-use Rattle.layout.specs.declared.{Opened.{Opened, TheVariants.{Accepted, Refused}}, Layout.Layout}
+use Rattle.layout.specs.declared.{Opened.{Opened, TheVariants.{Accepted, Refused}}}
 use Rattle.header_format.specs.Format.{true_magic}
 use Rattle.opening.specs.Opening.{opened}
 

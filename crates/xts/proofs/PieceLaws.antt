@@ -1,6 +1,6 @@
 -- Bytes converted piece by piece: one more piece laid behind those that are done. Said of any such conversion; blocks of a unit and units
 -- of a run are two. Assumes nothing.
-use Prim.Native.Nat.{ℕ, zero, suc, ◌+◌, ◌-◌, ◌≤◌}
+use Prim.Native.Nat.{ℕ, zero, suc, ◌+◌, ◌≤◌}
 use native.Mathlib.Omega.{arith}
 use mathlib.Core.{Path.{◌≡◌, sym, ap, ap₂, ◌∙◌}, List.{List, [], ◌++◌, append-nil, append_assoc}}
 use lib.ListN.{length, take, drop, length-append, length-take}

@@ -1,5 +1,5 @@
 -- Units one behind the other, each with its own number: what the contracts of `xts` cite of more than one. Assumes nothing.
-use Rattle.std.specs.Prelude.{ℕ, zero, suc, ◌+◌, ◌*◌, ◌/◌, ◌%◌, ◌^◌}
+use Rattle.std.specs.Prelude.{ℕ, zero, suc, ◌+◌, ◌/◌, ◌%◌, ◌^◌}
 use mathlib.Core.{Bool.{Bool, ◌&&◌, cond}, List.{List, [], ◌++◌}}
 use lib.{Dec.{eqb, ltb}, ListN.{length, take, drop}}
 use Rattle.aes.specs.declared.Direction.{Direction}

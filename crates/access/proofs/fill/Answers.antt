@@ -1,5 +1,4 @@
 -- `access::fill` meets its contract.
-use borrow.Author.Rules.{rules}
 use Prim.Native.Nat.{ℕ}
 use mathlib.Core.{List.List, Path.◌∙◌}
 use Rattle.access.proofs.MovingLaws.{copy_out}

@@ -1,6 +1,5 @@
 -- `access::lay` meets its contract.
 use mathlib.Core.Path.{◌∙◌}
-use borrow.Author.Rules.{rules}
 use Rattle.copy.proofs.CopyLaws.{copied_fits}
 use Rattle.access.proofs.lay.Goals as goal
 

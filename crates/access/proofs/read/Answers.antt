@@ -1,5 +1,4 @@
 -- `access::read` meets its contract: a refusal changes nothing, and an accepted read moves the extent's bytes.
-use borrow.Author.Rules.{rules}
 use native.Mathlib.Omega.{arith}
 use mathlib.Core.Path.{refl, sym, ◌∙◌}
 use Rattle.answers.specs.Answers.{is_accepted}

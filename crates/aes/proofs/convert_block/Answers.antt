@@ -1,5 +1,4 @@
 -- `aes::convert_block` meets its contract, by the ways.
-use borrow.Author.Rules.{rules}
 use Rattle.aes.specs.Cipher.{through_cipher}
 use Rattle.aes.proofs.convert_block.Goals as goal
 

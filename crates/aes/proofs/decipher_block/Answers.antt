@@ -1,7 +1,6 @@
 use mathlib.Core.Path.{◌≡◌, refl, ap, ◌∙◌}
-use Prim.Native.Nat.{ℕ, ◌≤◌}
+use Prim.Native.Nat.{ℕ}
 use native.Mathlib.Omega.{arith}
-use Rattle.aes_tables.specs.SBox.{ByTables}
 use Rattle.aes_words.specs.Words.{Words}
 use Rattle.aes_steps.specs.Blocks.{inv_sub_bytes, inv_shift_rows, add_round_key}
 use Rattle.aes.specs.Cipher.{round_key, inv_rounds, inv_cipher}

@@ -1,7 +1,5 @@
 use mathlib.Core.Path.{◌≡◌, refl, ap, ap₂, ◌∙◌}
-use Prim.Native.Nat.{◌-◌, ◌≤◌}
 use native.Mathlib.Omega.{arith}
-use Rattle.aes_tables.specs.SBox.{ByTables}
 use Rattle.aes_words.specs.Words.{Words}
 use Rattle.aes_steps.specs.Blocks.{sub_bytes, shift_rows, add_round_key}
 use Rattle.aes.specs.Cipher.{round_key, rounds, cipher}

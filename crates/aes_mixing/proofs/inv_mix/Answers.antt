@@ -2,7 +2,6 @@
 use mathlib.Core.Path.{ap₂}
 use lib.Bits.{bit_xor}
 use Rattle.aes_mixing.specs.Mixing.{mixed}
-use borrow.Author.Rules.{rules}
 use Rattle.aes_mixing.proofs.inv_mix.Goals as goal
 
 pub returns : goal.returns

@@ -3,7 +3,6 @@ use mathlib.Core.List.{[], ◌∷◌}
 use Rattle.bits.specs.Bits.{entries}
 use Rattle.aes_words.specs.Words.{word}
 use Rattle.aes_mixing.specs.Mixing.{mixed_word}
-use borrow.Author.Rules.{rules}
 use Rattle.aes_mixing.proofs.inv_mix_column.Goals as goal
 
 pub returns : goal.returns

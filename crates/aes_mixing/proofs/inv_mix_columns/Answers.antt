@@ -2,7 +2,6 @@
 use mathlib.Core.List.{[], ◌∷◌}
 use Rattle.bits.specs.Bits.{entries}
 use Rattle.aes_mixing.specs.Mixing.{each_column, inv_mix_columns}
-use borrow.Author.Rules.{rules}
 use Rattle.aes_mixing.proofs.inv_mix_columns.Goals as goal
 
 pub returns : goal.returns

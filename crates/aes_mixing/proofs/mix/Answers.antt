@@ -3,7 +3,6 @@ use mathlib.Core.Path.{sym, ap, ap₂, ◌∙◌}
 use lib.Bits.{bit_xor}
 use Rattle.aes_mixing.specs.Mixing.{mixed}
 use Rattle.aes_mixing.proofs.FieldLaws.{product_1, product_2, product_3}
-use borrow.Author.Rules.{rules}
 use Rattle.aes_mixing.proofs.mix.Goals as goal
 
 pub returns : goal.returns

@@ -3,7 +3,6 @@ use mathlib.Core.Path.{ap, ap₂, ◌∙◌}
 use lib.Bits.{bit_xor}
 use Rattle.aes_tables.specs.Field.{times_x}
 use Rattle.aes_mixing.proofs.FieldLaws.{product_11}
-use borrow.Author.Rules.{rules}
 use Rattle.aes_mixing.proofs.times_11.Goals as goal
 
 pub returns : goal.returns

@@ -3,7 +3,6 @@ use mathlib.Core.Path.{ap, ◌∙◌}
 use lib.Bits.{bit_xor}
 use Rattle.aes_tables.specs.Field.{times_x}
 use Rattle.aes_mixing.proofs.FieldLaws.{product_9}
-use borrow.Author.Rules.{rules}
 use Rattle.aes_mixing.proofs.times_9.Goals as goal
 
 pub returns : goal.returns

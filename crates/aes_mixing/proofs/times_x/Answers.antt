@@ -1,6 +1,5 @@
 -- `aes_mixing::times_x` meets its contract.
 use Rattle.aes_mixing.proofs.FieldLaws.{doubled}
-use borrow.Author.Rules.{rules}
 use Rattle.aes_mixing.proofs.times_x.Goals as goal
 
 pub returns : goal.returns

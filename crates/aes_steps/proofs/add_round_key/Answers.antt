@@ -3,7 +3,6 @@ use mathlib.Core.List.{[], ◌∷◌}
 use Rattle.bits.specs.Bits.{entries}
 use Rattle.aes_steps.specs.Blocks.{byte_at, block, add_round_key}
 use Rattle.aes_words.specs.Words.{word, add_word}
-use borrow.Author.Rules.{rules}
 use Rattle.aes_steps.proofs.add_round_key.Goals as goal
 
 pub returns : goal.returns

@@ -2,7 +2,6 @@
 use mathlib.Core.Path.{ap, ◌∙◌}
 use Rattle.aes_mixing.specs.Mixing.{inv_mix_columns}
 use Rattle.aes_steps.specs.Rounds.{inv_round}
-use borrow.Author.Rules.{rules}
 use Rattle.aes_steps.proofs.inv_round.Goals as goal
 
 pub returns : goal.returns

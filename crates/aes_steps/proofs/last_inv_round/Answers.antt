@@ -1,7 +1,6 @@
 -- `aes_steps::last_inv_round` meets its contract.
 use mathlib.Core.Path.{ap, ◌∙◌}
 use Rattle.aes_steps.specs.Blocks.{inv_sub_bytes, add_round_key}
-use borrow.Author.Rules.{rules}
 use Rattle.aes_steps.proofs.last_inv_round.Goals as goal
 
 pub returns : goal.returns

@@ -1,7 +1,6 @@
 -- `aes_steps::last_round` meets its contract.
 use mathlib.Core.Path.{ap, ◌∙◌}
 use Rattle.aes_steps.specs.Blocks.{shift_rows, add_round_key}
-use borrow.Author.Rules.{rules}
 use Rattle.aes_steps.proofs.last_round.Goals as goal
 
 pub returns : goal.returns

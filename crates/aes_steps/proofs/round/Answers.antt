@@ -3,7 +3,6 @@ use mathlib.Core.Path.{ap, ◌∙◌}
 use Rattle.aes_steps.specs.Blocks.{shift_rows, add_round_key}
 use Rattle.aes_mixing.specs.Mixing.{mix_columns}
 use Rattle.aes_steps.specs.Rounds.{round}
-use borrow.Author.Rules.{rules}
 use Rattle.aes_steps.proofs.round.Goals as goal
 
 pub returns : goal.returns

@@ -2,7 +2,6 @@
 use mathlib.Core.Path.{refl}
 use Rattle.bits.specs.Bits.{entries}
 use Rattle.aes_words.specs.Words.{word, add_word}
-use borrow.Author.Rules.{rules}
 use Rattle.aes_words.proofs.add_word.Goals as goal
 
 pub returns : goal.returns

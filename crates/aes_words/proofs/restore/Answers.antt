@@ -4,7 +4,6 @@ use Prim.Native.Nat.{ℕ}
 use mathlib.Core.List.{List, []}
 use lib.ListN.{get_or}
 use Rattle.aes_tables.proofs.TableLaws.{restored_at}
-use borrow.Author.Rules.{rules}
 use Rattle.aes_words.proofs.restore.Goals as goal
 
 pub returns : goal.returns

@@ -2,7 +2,6 @@
 use mathlib.Core.List.{[], ◌∷◌}
 use Rattle.bits.specs.Bits.{entries}
 use Rattle.aes_words.specs.Words.{word, each_byte, sub_word}
-use borrow.Author.Rules.{rules}
 use Rattle.aes_words.proofs.sub_word.Goals as goal
 
 pub returns : goal.returns

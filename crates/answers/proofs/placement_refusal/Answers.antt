@@ -1,6 +1,5 @@
 -- `answers::placement_refusal` meets its contract, by the cases of the placement.
 use mathlib.Core.Path.{refl}
-use borrow.Author.Rules.{rules}
 use Rattle.answers.specs.Answers.{placement_refusal}
 use Rattle.answers.proofs.placement_refusal.Goals as goal
 

@@ -1,6 +1,5 @@
 -- `answers::refusal` meets its contract, by the cases of the answer.
 use mathlib.Core.Path.{refl}
-use borrow.Author.Rules.{rules}
 use Rattle.answers.specs.Answers.{answer_refusal}
 use Rattle.answers.proofs.refusal.Goals as goal
 

@@ -1,6 +1,5 @@
 -- `answers::written_refusal` meets its contract, by the cases of the answer.
 use mathlib.Core.Path.{refl}
-use borrow.Author.Rules.{rules}
 use Rattle.answers.specs.Answers.{written_refusal}
 use Rattle.answers.proofs.written_refusal.Goals as goal
 

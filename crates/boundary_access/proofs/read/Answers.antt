@@ -1,6 +1,5 @@
 -- `boundary_access::read` meets its contract: the answer of the view that the numbers tell, as a number and a sector.
 use Rattle.boundary_access.proofs.ToldViewLaws.{read_call}
-use borrow.Author.Rules.{rules}
 use Rattle.boundary_access.proofs.read.Goals as goal
 
 pub returns : goal.returns

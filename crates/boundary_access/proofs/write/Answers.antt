@@ -1,6 +1,5 @@
 -- `boundary_access::write` meets its contract: the answer of the view that the numbers tell, as a number and a sector, and its lock.
 use Rattle.boundary_access.proofs.ToldViewLaws.{write_call}
-use borrow.Author.Rules.{rules}
 use Rattle.boundary_access.proofs.write.Goals as goal
 
 pub returns : goal.returns

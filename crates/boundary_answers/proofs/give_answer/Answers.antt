@@ -2,7 +2,6 @@
 use mathlib.Core.Path.{refl}
 use Rattle.answers.specs.Answers.{answer_refusal, answer_sector}
 use Rattle.boundary_answers.specs.BoundaryAnswers.{sector_left}
-use borrow.Author.Rules.{rules}
 use Rattle.boundary_answers.proofs.give_answer.Goals as goal
 
 pub returns-in-Accepted : goal.returns-in-Accepted

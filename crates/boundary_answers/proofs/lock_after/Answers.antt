@@ -2,7 +2,6 @@
 use mathlib.Core.Path.{refl, sym}
 use borrow.Author.Tests.{eq-eqb, ne_eqb}
 use Rattle.boundary_answers.specs.BoundaryAnswers.{view_left}
-use borrow.Author.Rules.{rules}
 use Rattle.boundary_answers.proofs.lock_after.Goals as goal
 
 pub returns-then-number-ne18 : goal.returns-then-number-ne18

@@ -3,7 +3,6 @@ use mathlib.Core.Path.{refl}
 use Rattle.answers.specs.Answers.{placement_refusal, placement_sector}
 use Rattle.boundary_answers.specs.BoundaryAnswers.{sector_left}
 use Rattle.boundary_extents.specs.BoundaryExtents.{offset_left}
-use borrow.Author.Rules.{rules}
 use Rattle.boundary_extents.proofs.give_placement.Goals as goal
 
 pub returns-in-Offset : goal.returns-in-Offset

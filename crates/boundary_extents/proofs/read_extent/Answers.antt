@@ -1,6 +1,5 @@
 -- `boundary_extents::read_extent` meets its contract: the placement of the view that the numbers tell.
 use Rattle.boundary_extents.proofs.ToldExtentLaws.{read_extent_call}
-use borrow.Author.Rules.{rules}
 use Rattle.boundary_extents.proofs.read_extent.Goals as goal
 
 pub returns : goal.returns

@@ -1,6 +1,5 @@
 -- `boundary_extents::write_extent` meets its contract: the placement of the view that the numbers tell, and its lock.
 use Rattle.boundary_extents.proofs.ToldExtentLaws.{write_extent_call}
-use borrow.Author.Rules.{rules}
 use Rattle.boundary_extents.proofs.write_extent.Goals as goal
 
 pub returns : goal.returns

@@ -2,7 +2,6 @@
 use Prim.Native.Nat.{ℕ}
 use mathlib.Core.{List.List, Path.{◌≡◌, ap, ◌∙◌}}
 use lib.ListN.{length}
-use borrow.Author.Rules.{rules}
 use Rattle.answers.specs.{Answers.written_refusal, declared.Written.Written}
 use Rattle.header_writing.specs.HeaderWriting.{asked_layout, header_answer, header_left}
 use Rattle.boundary_headers.proofs.write_header.Goals as goal

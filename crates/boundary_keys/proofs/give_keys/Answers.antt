@@ -5,7 +5,6 @@ use Rattle.layout.specs.{declared.Opened.Opened, Opened.opened_refusal}
 use native.Mathlib.Omega.{arith}
 use Rattle.key_bytes.specs.KeyBytes.{keys_offset, keys_size}
 use Rattle.boundary_keys.specs.BoundaryKeys.{keys_left}
-use borrow.Author.Rules.{rules}
 use Rattle.boundary_keys.proofs.give_keys.Goals as goal
 
 few : (c : goal.After-struct_known-1) → c.in-Accepted.layout.candidate * 512 + 256 ≤ 32768

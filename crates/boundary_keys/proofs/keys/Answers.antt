@@ -3,7 +3,6 @@ use Rattle.layout.specs.Opened.{opened_refusal}
 use Rattle.boundary_numbers.proofs.GivenLaws.{given}
 use Rattle.boundary_keys.specs.BoundaryKeys.{keys_left}
 use Rattle.key_bytes.proofs.KeyLaws.{keys_offset_most}
-use borrow.Author.Rules.{rules}
 use Rattle.boundary_keys.proofs.keys.Goals as goal
 
 pub give_keys-requires : goal.give_keys-requires

@@ -2,7 +2,6 @@
 use mathlib.Core.Path.{refl}
 use Rattle.answers.specs.Answers.{numbered_refusal}
 use Rattle.boundary_numbers.specs.BoundaryNumbers.{block_left}
-use borrow.Author.Rules.{rules}
 use Rattle.boundary_map.proofs.give_block.Goals as goal
 
 pub returns-in-Number : goal.returns-in-Number

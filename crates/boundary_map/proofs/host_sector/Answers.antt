@@ -4,7 +4,6 @@ use Rattle.layout.specs.declared.Layout.{Layout}
 use Rattle.sector_map.specs.SectorMap.{host_sector}
 use Rattle.boundary_answers.specs.BoundaryAnswers.{numbered_left}
 use Rattle.boundary_numbers.proofs.GivenLaws.{given_for}
-use borrow.Author.Rules.{rules}
 use Rattle.boundary_map.proofs.host_sector.Goals as goal
 
 pub returns : goal.returns

@@ -4,7 +4,6 @@ use Rattle.layout.specs.declared.Layout.{Layout}
 use Rattle.tweaks.specs.{Tweaks.tweak_of, declared.Tweak.Tweak}
 use Rattle.boundary_numbers.proofs.GivenLaws.{given_for}
 use Rattle.boundary_numbers.specs.BoundaryNumbers.{block_left}
-use borrow.Author.Rules.{rules}
 use Rattle.boundary_map.proofs.tweak.Goals as goal
 
 pub returns : goal.returns

@@ -2,7 +2,6 @@
 use mathlib.Core.Path.{refl}
 use Rattle.making.specs.Views.{viewed_refusal}
 use Rattle.boundary_numbers.specs.BoundaryNumbers.{viewed_left}
-use borrow.Author.Rules.{rules}
 use Rattle.boundary_numbers.proofs.give_view.Goals as goal
 
 pub returns-in-Made : goal.returns-in-Made

@@ -1,5 +1,4 @@
 -- `boundary_numbers::layout_from` meets its contract.
-use borrow.Author.Rules.{rules}
 use Rattle.boundary_numbers.proofs.layout_from.Goals as goal
 
 pub returns : goal.returns

@@ -1,7 +1,6 @@
 -- `boundary_numbers::protection_numbers` meets its contract, by its cases.
 use mathlib.Core.Path.{refl}
 use Rattle.boundary_numbers.specs.BoundaryNumbers.{protection_numbers}
-use borrow.Author.Rules.{rules}
 use Rattle.boundary_numbers.proofs.protection_numbers.Goals as goal
 
 pub returns-in-Unprotected : goal.returns-in-Unprotected

@@ -1,7 +1,6 @@
 -- `boundary_numbers::read_layout` meets its contract.
 use mathlib.Core.Path.{refl}
 use Rattle.boundary_numbers.specs.BoundaryNumbers.{layout_from}
-use borrow.Author.Rules.{rules}
 use Rattle.boundary_numbers.proofs.read_layout.Goals as goal
 
 pub returns : goal.returns

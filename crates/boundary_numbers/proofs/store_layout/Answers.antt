@@ -2,7 +2,6 @@
 use native.Mathlib.Omega.{arith}
 use lib.{ListN.length-set, Seq.sets-eq}
 use Rattle.boundary_numbers.specs.BoundaryNumbers.{layout_numbers}
-use borrow.Author.Rules.{rules}
 use Rattle.boundary_numbers.proofs.store_layout.Goals as goal
 
 pub bounds-numbers-1 : goal.bounds-numbers-1

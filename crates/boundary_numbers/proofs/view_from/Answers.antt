@@ -1,7 +1,6 @@
 -- `boundary_numbers::view_from` meets its contract.
 use mathlib.Core.Path.{refl}
 use Rattle.boundary_numbers.specs.BoundaryNumbers.{view_from}
-use borrow.Author.Rules.{rules}
 use Rattle.boundary_numbers.proofs.view_from.Goals as goal
 
 pub returns : goal.returns

@@ -2,7 +2,6 @@
 use Rattle.answers.specs.Answers.{numbered_refusal}
 use Rattle.boundary_answers.specs.BoundaryAnswers.{numbered_left}
 use Rattle.boundary_numbers.proofs.GivenLaws.{given}
-use borrow.Author.Rules.{rules}
 use Rattle.boundary_opening.proofs.location.Goals as goal
 
 pub returns : goal.returns

@@ -2,7 +2,6 @@
 use Rattle.layout.specs.Opened.{opened_refusal}
 use Rattle.boundary_numbers.specs.BoundaryNumbers.{opened_left}
 use Rattle.boundary_numbers.proofs.GivenLaws.{given}
-use borrow.Author.Rules.{rules}
 use Rattle.boundary_opening.proofs.open.Goals as goal
 
 pub returns : goal.returns

@@ -1,6 +1,5 @@
 -- `boundary_plaintext::read` meets its contract: the answer of the view that the numbers tell, with the key, as a number and a sector.
 use Rattle.boundary_plaintext.proofs.ToldKeyedLaws.{plain_read_call}
-use borrow.Author.Rules.{rules}
 use Rattle.boundary_plaintext.proofs.read.Goals as goal
 
 pub returns : goal.returns

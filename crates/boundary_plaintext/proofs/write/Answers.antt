@@ -1,6 +1,5 @@
 -- `boundary_plaintext::write` meets its contract: the answer of the view that the numbers tell, with the key, as a number and a sector, and its lock.
 use Rattle.boundary_plaintext.proofs.ToldKeyedLaws.{plain_write_call}
-use borrow.Author.Rules.{rules}
 use Rattle.boundary_plaintext.proofs.write.Goals as goal
 
 pub returns : goal.returns

@@ -1,5 +1,4 @@
 -- `boundary_units::encipher` meets its contract: what is stored is the converted unit.
-use borrow.Author.Rules.{rules}
 use Rattle.boundary_units.proofs.encipher.Goals as goal
 
 pub returns : goal.returns

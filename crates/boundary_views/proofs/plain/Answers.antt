@@ -2,7 +2,6 @@
 use Rattle.making.specs.Views.{plain_view, viewed_refusal}
 use Rattle.boundary_numbers.specs.BoundaryNumbers.{viewed_left}
 use Rattle.boundary_numbers.proofs.GivenLaws.{given_for}
-use borrow.Author.Rules.{rules}
 use Rattle.boundary_views.proofs.plain.Goals as goal
 
 pub returns : goal.returns

@@ -3,7 +3,6 @@ use Rattle.layout.specs.declared.Layout.{Layout}
 use Rattle.making.specs.Views.{protected_view, viewed_refusal}
 use Rattle.boundary_numbers.specs.BoundaryNumbers.{viewed_left}
 use Rattle.boundary_numbers.proofs.GivenLaws.{given_for}
-use borrow.Author.Rules.{rules}
 use Rattle.boundary_views.proofs.protected.Goals as goal
 
 pub returns : goal.returns

@@ -1,10 +1,6 @@
-use Prim.Native.Nat.{◌≤◌, ◌-◌}
-use mathlib.Core.Path.{◌≡◌, sym, ◌∙◌}
+use mathlib.Core.Path.{sym, ◌∙◌}
 use native.Mathlib.Omega.{arith}
-use borrow.Author.Rules.{rules}
-use lib.ListN.{length, drop}
 use borrow.Author.Tests.{eq-eqb, ne_eqb}
-use Rattle.byte_tests.specs.Tests.{all_zero}
 use Rattle.byte_tests.proofs.BytesLaws.{all_zero_drop, all_zero_end}
 use Rattle.byte_tests.proofs.is_zero.Goals as goal
 

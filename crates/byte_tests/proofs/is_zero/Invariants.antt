@@ -1,12 +1,8 @@
 -- `byte_tests::is_zero` meets its contract. The loop's invariant: what is left decides the test of the whole.
 use Prim.Native.Nat.{◌≤◌, ◌-◌}
-use mathlib.Core.Path.{◌≡◌, sym, ◌∙◌}
-use native.Mathlib.Omega.{arith}
-use borrow.Author.Rules.{rules}
+use mathlib.Core.Path.{◌≡◌}
 use lib.ListN.{length, drop}
-use borrow.Author.Tests.{eq-eqb, ne_eqb}
 use Rattle.byte_tests.specs.Tests.{all_zero}
-use Rattle.byte_tests.proofs.BytesLaws.{all_zero_drop, all_zero_end}
 use Rattle.byte_tests.proofs.is_zero.Given as goal
 
 abbrev pub invariant-loop-zeros : goal.invariant-loop-zeros

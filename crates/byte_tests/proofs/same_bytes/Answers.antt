@@ -1,10 +1,6 @@
-use Prim.Native.Nat.{◌≤◌, ◌-◌}
-use mathlib.Core.Path.{◌≡◌, sym, ◌∙◌}
+use mathlib.Core.Path.{sym, ◌∙◌}
 use native.Mathlib.Omega.{arith}
-use borrow.Author.Rules.{rules}
-use lib.ListN.{length, drop}
 use borrow.Author.Tests.{eq-eqb, ne_eqb}
-use Rattle.byte_tests.specs.Tests.{same_bytes}
 use Rattle.byte_tests.proofs.BytesLaws.{same_bytes_length, same_bytes_drop, same_bytes_end}
 use Rattle.byte_tests.proofs.same_bytes.Goals as goal
 

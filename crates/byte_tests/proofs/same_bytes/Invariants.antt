@@ -1,12 +1,8 @@
 -- `byte_tests::same_bytes` meets its contract. The loop's invariant: what is left decides the test of the whole.
 use Prim.Native.Nat.{◌≤◌, ◌-◌}
-use mathlib.Core.Path.{◌≡◌, sym, ◌∙◌}
-use native.Mathlib.Omega.{arith}
-use borrow.Author.Rules.{rules}
+use mathlib.Core.Path.{◌≡◌}
 use lib.ListN.{length, drop}
-use borrow.Author.Tests.{eq-eqb, ne_eqb}
 use Rattle.byte_tests.specs.Tests.{same_bytes}
-use Rattle.byte_tests.proofs.BytesLaws.{same_bytes_length, same_bytes_drop, same_bytes_end}
 use Rattle.byte_tests.proofs.same_bytes.Given as goal
 
 abbrev pub invariant-loop-same : goal.invariant-loop-same

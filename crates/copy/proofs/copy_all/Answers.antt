@@ -1,8 +1,7 @@
 use mathlib.Core.{Path.{◌≡◌, refl, ap, ◌∙◌}, List.List}
-use Prim.Native.Nat.{ℕ, zero-le, ◌-◌, ◌≤◌}
+use Prim.Native.Nat.{ℕ, zero-le}
 use native.Mathlib.Omega.{arith}
 use lib.ListN.{length, length-take, length-drop}
-use borrow.Author.Rules.{rules}
 use Rattle.copy.proofs.CopyLaws.{begun, begun_length, begun_more, copied_over}
 use Rattle.copy.proofs.copy_all.Goals as goal
 

@@ -1,10 +1,8 @@
 -- `copy::copy_all` meets its contract. The loop's invariant: the bytes that are done come first, and behind them stands what stood there.
-use mathlib.Core.{Path.{◌≡◌, refl, ap, ◌∙◌}, List.List}
-use Prim.Native.Nat.{ℕ, zero-le, ◌-◌, ◌≤◌}
-use native.Mathlib.Omega.{arith}
-use lib.ListN.{length, length-take, length-drop}
-use borrow.Author.Rules.{rules}
-use Rattle.copy.proofs.CopyLaws.{begun, begun_length, begun_more, copied_over}
+use mathlib.Core.{Path.{◌≡◌}}
+use Prim.Native.Nat.{◌-◌, ◌≤◌}
+use lib.ListN.{length}
+use Rattle.copy.proofs.CopyLaws.{begun}
 use Rattle.copy.proofs.copy_all.Given as goal
 
 abbrev pub invariant-loop-done : goal.invariant-loop-done

@@ -4,7 +4,6 @@ use native.Mathlib.Omega.{arith}
 use mathlib.Core.{Path.{refl, sym, ap, ◌∙◌}, List.List}
 use lib.ListN.{length}
 use borrow.Rule.Slice.PartMut.{put_mid}
-use borrow.Author.Rules.{rules}
 use Rattle.fields.proofs.OverlayLaws.{part_size, part_laid}
 use Rattle.copy.proofs.CopyLaws.{copied_fits, copied_none}
 use Rattle.copy.proofs.lay.Goals as goal

@@ -1,8 +1,5 @@
-use mathlib.Core.Path.{◌≡◌, sym, ◌∙◌}
-use Prim.Native.Nat.{◌≤◌, ◌-◌}
-use lib.ListN.{length, drop}
+use mathlib.Core.Path.{sym, ◌∙◌}
 use borrow.Author.Rules.{rules}
-use Rattle.crc32.specs.Crc32.{crc_from}
 use Rattle.crc32.proofs.WordLaws.{byte_step, crc_from_end}
 use Rattle.crc32.proofs.after_bytes.Goals as goal
 

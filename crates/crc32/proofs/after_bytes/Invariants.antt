@@ -1,11 +1,9 @@
 -- `crc32::after_bytes` meets its contract. The loop's invariant: the register after what is left of the bytes is that after
 -- all of them.
-use mathlib.Core.Path.{◌≡◌, sym, ◌∙◌}
+use mathlib.Core.Path.{◌≡◌}
 use Prim.Native.Nat.{◌≤◌, ◌-◌}
 use lib.ListN.{length, drop}
-use borrow.Author.Rules.{rules}
 use Rattle.crc32.specs.Crc32.{crc_from}
-use Rattle.crc32.proofs.WordLaws.{byte_step, crc_from_end}
 use Rattle.crc32.proofs.after_bytes.Given as goal
 
 abbrev pub invariant-loop-i : goal.invariant-loop-i

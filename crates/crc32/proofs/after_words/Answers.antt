@@ -1,6 +1,6 @@
-use mathlib.Core.{Path.{◌≡◌, sym, ap, ◌∙◌}, List.List}
-use Prim.Native.Nat.{ℕ, ◌+◌, ◌≤◌, ◌-◌, ◌%◌}
-use lib.{Bits.bit_xor, ListN.{length, drop}}
+use mathlib.Core.{Path.{sym, ap, ◌∙◌}, List.List}
+use Prim.Native.Nat.{ℕ, ◌+◌}
+use lib.{Bits.bit_xor, ListN.{drop}}
 use borrow.Author.Rules.{rules}
 use Rattle.crc32.specs.Crc32.{bit_steps, crc_from}
 use Rattle.crc32.proofs.WordLaws.{word_step, crc_from_end}

@@ -1,11 +1,9 @@
 -- `crc32::after_words` meets its contract. The loop's invariant: the register after what is left of the bytes is that after
 -- all of them, and what is left is whole words.
-use mathlib.Core.{Path.{◌≡◌, sym, ap, ◌∙◌}, List.List}
-use Prim.Native.Nat.{ℕ, ◌+◌, ◌≤◌, ◌-◌, ◌%◌}
-use lib.{Bits.bit_xor, ListN.{length, drop}}
-use borrow.Author.Rules.{rules}
-use Rattle.crc32.specs.Crc32.{bit_steps, crc_from}
-use Rattle.crc32.proofs.WordLaws.{word_step, crc_from_end}
+use mathlib.Core.{Path.{◌≡◌}}
+use Prim.Native.Nat.{◌≤◌, ◌-◌, ◌%◌}
+use lib.{ListN.{length, drop}}
+use Rattle.crc32.specs.Crc32.{crc_from}
 use Rattle.crc32.proofs.after_words.Given as goal
 
 abbrev pub invariant-loop-i : goal.invariant-loop-i

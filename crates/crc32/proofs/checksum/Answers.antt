@@ -1,5 +1,4 @@
 -- `crc32::checksum` meets its contract: it is the sum by the tables.
-use borrow.Author.Rules.{rules}
 use Rattle.crc32.proofs.checksum.Goals as goal
 
 pub returns : goal.returns

@@ -1,7 +1,6 @@
 -- `crc32::checksum_pair` meets its contract: each is the sum by the tables.
 use mathlib.Core.{Path.{◌≡◌, ap, ◌∙◌}, List.{List, [], ◌∷◌}}
 use Prim.Native.Nat.{ℕ}
-use borrow.Author.Rules.{rules}
 use Rattle.crc32.proofs.checksum_pair.Goals as goal
 
 pair : {a b x y : ℕ} → a ≡ x → b ≡ y → ◌≡◌ {A = List ℕ} (a ∷ b ∷ []) (x ∷ y ∷ [])

@@ -5,7 +5,6 @@ use native.Mathlib.Omega.{arith}
 use lib.{Bits.bit_xor, ListN.{length, take, drop}, Seq.length-take-le}
 use Rattle.crc32.specs.Crc32.{crc_from, crc32}
 use Rattle.crc32.proofs.WordLaws.{crc_from_parts}
-use borrow.Author.Rules.{rules}
 use Rattle.crc32.proofs.sum.Goals as goal
 
 pub slice_bounds-after_bytes-end : goal.slice_bounds-after_bytes-end

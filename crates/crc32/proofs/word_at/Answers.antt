@@ -2,7 +2,6 @@
 use mathlib.Core.Path.{◌≡◌, subst}
 use Prim.Native.Nat.{ℕ, ◌<◌}
 use Rattle.crc32.proofs.WordLaws.{word_of, bytes_of}
-use borrow.Author.Rules.{rules}
 use Rattle.crc32.proofs.word_at.Goals as goal
 
 small : {r b : ℕ} → r ≡ b → r < 256 → b < 256

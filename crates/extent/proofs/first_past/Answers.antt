@@ -1,6 +1,5 @@
 -- `extent::first_past` meets its contract.
 use mathlib.Core.Path.{sym, ◌∙◌}
-use borrow.Author.Rules.{rules}
 use Rattle.extent.specs.Extents.{beyond}
 use Rattle.extent.proofs.first_past.Goals as goal
 

@@ -1,7 +1,5 @@
 -- `extent::first_shared` meets its contract: both extents are asked for the larger of their first sectors.
 use mathlib.Core.Path.{sym, ◌∙◌}
-use borrow.Author.Rules.{rules}
-use borrow.Author.Tests.{not-true, not-false}
 use Rattle.extent.specs.Extents.{overlap}
 use Rattle.extent.proofs.first_shared.Goals as goal
 

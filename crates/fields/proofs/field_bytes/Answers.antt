@@ -1,5 +1,4 @@
 -- `fields::field_bytes` meets its contract: where the bytes end, the part is cut as `take` and `drop` cut it.
-use borrow.Author.Rules.{rules}
 use Rattle.fields.proofs.CutLaws.{part_cut}
 use Rattle.fields.proofs.field_bytes.Goals as goal
 

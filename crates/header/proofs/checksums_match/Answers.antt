@@ -7,7 +7,6 @@ use Rattle.fields.specs.Bytes.{field_part}
 use Rattle.crc32.specs.Crc32.{crc32}
 use Rattle.header_format.specs.Format.{keys_field, checked_field}
 use Rattle.header.specs.Header.{checksums_match}
-use borrow.Author.Rules.{rules}
 use Rattle.header.proofs.checksums_match.Goals as goal
 
 module _ (h : List ℕ) {keys checked sums : List ℕ} (k : keys ≡ field_part keys_field h) (f : checked ≡ field_part checked_field h) where

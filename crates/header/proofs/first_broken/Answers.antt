@@ -1,5 +1,5 @@
 -- `header::first_broken` meets its contract: at each return the lines before are kept, and the line tested is broken.
-use mathlib.Core.{Path.{◌≡◌, refl, sym}, Bool.true, List.List}
+use mathlib.Core.{Path.{◌≡◌, refl}, Bool.true, List.List}
 use Prim.Native.Nat.{ℕ}
 use borrow.Author.Tests.{eq-eqb, ne_eqb}
 use Rattle.answers.specs.Answers.{line}

@@ -1,12 +1,11 @@
 -- `header::judge` meets its contract: no header by its length, its magic or its checksums, or judged by the first line it breaks.
-use mathlib.Core.{Path.{◌≡◌, sym, ◌∙◌}, Bool.{Bool, true, false}, List.List}
+use mathlib.Core.{Path.{◌≡◌, sym, ◌∙◌}, Bool.{Bool, false}, List.List}
 use Prim.Native.Nat.{ℕ, ◌≤◌, ◌<◌}
 use lib.ListN.{length}
 use Rattle.header_format.specs.Format.{header_bytes, truecrypt}
-use borrow.Author.Tests.{eq-eqb, ne_eqb, le-leb, lt-leb, not-true, not-false}
+use borrow.Author.Tests.{eq-eqb, ne_eqb, le-leb, lt-leb}
 use Rattle.answers.proofs.KeptLaws.{line_broken}
 use Rattle.header.specs.Header.{judge, is_header, magic_of, checksums_match}
-use borrow.Author.Rules.{rules}
 use Rattle.header.proofs.judge.Goals as goal
 
 no_header : (h : List ℕ) → (length h ≡ header_bytes → ⊥) → is_header h ≡ false

@@ -1,7 +1,6 @@
 -- `header::keeps_area` meets its contract.
 use borrow.Author.Tests.{eq-eqb, ne_eqb}
 use Rattle.header.specs.Header.{area_rule}
-use borrow.Author.Rules.{rules}
 use Rattle.header.proofs.keeps_area.Goals as goal
 
 pub returns-then-encrypted_size-layout : goal.returns-then-encrypted_size-layout

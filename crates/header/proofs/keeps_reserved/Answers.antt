@@ -1,11 +1,8 @@
 -- `header::keeps_reserved` meets its contract: the flags first, then for VERA the two reserved fields.
-use mathlib.Core.Path.{◌≡◌, sym, ap, ◌∙◌}
-use Rattle.fields.specs.Bytes.{field_part}
+use mathlib.Core.Path.{sym, ap, ◌∙◌}
 use Rattle.byte_tests.specs.Tests.{all_zero}
-use borrow.Author.Tests.{eq-eqb, ne_eqb, not-true, not-false}
-use Rattle.header_format.specs.Format.{reserved_field}
+use borrow.Author.Tests.{eq-eqb, ne_eqb}
 use Rattle.header.specs.Header.{reserved_rule}
-use borrow.Author.Rules.{rules}
 use Rattle.header.proofs.keeps_reserved.Goals as goal
 
 pub returns-then-flags-ne0 : goal.returns-then-flags-ne0

@@ -2,7 +2,6 @@
 use mathlib.Core.Path.{ap, ◌∙◌}
 use Rattle.header_format.specs.Format.{magic_number}
 use Rattle.header.specs.Header.{magic_of}
-use borrow.Author.Rules.{rules}
 use Rattle.header.proofs.magic_of.Goals as goal
 
 pub returns : goal.returns

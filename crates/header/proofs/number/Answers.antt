@@ -1,6 +1,5 @@
 -- `header::number` meets its contract: the field has at most eight bytes, so what is read is the number itself.
 use native.Mathlib.Omega.{arith}
-use borrow.Author.Rules.{rules}
 use lib.ListN.{length-take}
 use Rattle.header.proofs.number.Goals as goal
 

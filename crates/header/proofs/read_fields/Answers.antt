@@ -5,7 +5,6 @@ use Rattle.fields.specs.Bytes.{field_part}
 use Rattle.header_format.specs.Format.{version_field, min_program_version_field, hidden_size_field, data_size_field, data_start_field}
 use Rattle.header_format.specs.Format.{encrypted_size_field, flags_field, sector_size_field}
 use Rattle.header.specs.Header.{fields_of}
-use borrow.Author.Rules.{rules}
 use Rattle.header.proofs.read_fields.Goals as goal
 
 pub returns : goal.returns

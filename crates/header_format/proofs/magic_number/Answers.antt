@@ -1,7 +1,6 @@
 -- `header_format::magic_number` meets its contract: the two words are the magics of the definition.
 use mathlib.Core.Path.{refl, sym, ◌∙◌}
 use Rattle.header_format.specs.Format.{magic_number}
-use borrow.Author.Rules.{rules}
 use Rattle.header_format.proofs.magic_number.Goals as goal
 
 pub returns-then-same_bytes : goal.returns-then-same_bytes

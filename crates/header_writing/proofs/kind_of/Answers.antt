@@ -3,7 +3,6 @@ use Prim.Native.Nat.{◌≤◌}
 use mathlib.Core.Path.{refl, sym, ap}
 use native.Mathlib.Omega.{arith}
 use lib.ListN.{length, get_or-eq_default}
-use borrow.Author.Rules.{rules}
 use Rattle.locations.specs.{Locations.{locations, location_of}, declared.Location.Location}
 use Rattle.header_writing.proofs.kind_of.Goals as goal
 

@@ -2,7 +2,6 @@
 use Prim.Native.Nat.{ℕ}
 use mathlib.Core.{List.List, Path.{◌≡◌, ap, ◌∙◌}}
 use lib.ListN.{length}
-use borrow.Author.Rules.{rules}
 use Rattle.layout.specs.declared.Layout.{Layout}
 use Rattle.locations.specs.Locations.{location_of}
 use Rattle.header_format.specs.Format.{magic_number}

@@ -3,7 +3,6 @@ use mathlib.Core.Path.{refl, sym, ◌∙◌}
 use Rattle.new_header.proofs.LengthLaws.{over_fit}
 use Rattle.header_writing.specs.HeaderWriting.{header_left}
 use Rattle.header_writing.proofs.AnswerLaws.{done_passed}
-use borrow.Author.Rules.{rules}
 use Rattle.header_writing.proofs.write_layout.Goals as goal
 
 pub returns-in-Done : goal.returns-in-Done

@@ -1,5 +1,4 @@
 -- `judgement::judge_end` meets its contract: the extent against the volume's end.
-use borrow.Author.Rules.{rules}
 use Rattle.sector_map.specs.SectorMap.{sectors}
 use Rattle.answers.specs.declared.Answer.TheVariants.{Accepted}
 use Rattle.judgement.specs.Judging.{end_answer}

@@ -1,5 +1,4 @@
 -- `judgement::judge_lock` meets its contract: the lock, then what the extent shares with the protected range.
-use borrow.Author.Rules.{rules}
 use mathlib.Core.Path.{refl, ap, ◌∙◌}
 use Rattle.answers.specs.declared.Answer.TheVariants.{Accepted}
 use Rattle.extent.specs.Extents.{overlap}

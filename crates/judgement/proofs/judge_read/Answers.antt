@@ -1,13 +1,10 @@
 -- `judgement::judge_read` meets its contract: each return is under the checks that were passed, in their order.
-use borrow.Author.Rules.{rules}
-use Prim.Native.Nat.{◌*◌}
-use mathlib.Core.{Path.{◌≡◌, sym, ◌∙◌}, Bool.true}
-use lib.Dec.{leb, eqb}
-use borrow.Author.Tests.{eq-eqb, ne_eqb, le-leb, lt-leb, not-true, not-false}
+use mathlib.Core.{Path.{sym, ◌∙◌}}
+use borrow.Author.Tests.{eq-eqb, ne_eqb, le-leb, lt-leb}
 use Rattle.protection.specs.Protection.{protection_rule, sound_protection}
-use Rattle.layout.specs.Rules.{sector_bytes, sound}
+use Rattle.layout.specs.Rules.{sound}
 use Rattle.layout.proofs.RuleLaws.{and_true_left, sound_sector_size}
-use Rattle.judgement.specs.Judging.{max_count, checked, read_answer}
+use Rattle.judgement.specs.Judging.{checked, read_answer}
 use Rattle.judgement.proofs.judge_read.Goals as goal
 
 pub returns-then-not-is_sound : goal.returns-then-not-is_sound

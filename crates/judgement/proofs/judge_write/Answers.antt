@@ -1,5 +1,4 @@
 -- `judgement::judge_write` meets its contract: the checks of every call, then those of a write.
-use borrow.Author.Rules.{rules}
 use mathlib.Core.Path.{refl, ◌∙◌}
 use Rattle.answers.specs.Answers.{is_accepted}
 use Rattle.judgement.specs.Judging.{write_answer}

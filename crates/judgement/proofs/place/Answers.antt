@@ -1,5 +1,4 @@
 -- `judgement::place` meets its contract, by the cases of the answer.
-use borrow.Author.Rules.{rules}
 use mathlib.Core.Path.{refl}
 use Rattle.judgement.specs.Offsets.{placed_by}
 use Rattle.judgement.proofs.place.Goals as goal

@@ -1,5 +1,4 @@
 -- `judgement::write_extent` meets its contract: the write's own answer, and where it places the extent.
-use borrow.Author.Rules.{rules}
 use mathlib.Core.Path.{ap, ◌∙◌}
 use Rattle.answers.specs.declared.Answer.{Answer}
 use Rattle.judgement.specs.Offsets.{placed_by}

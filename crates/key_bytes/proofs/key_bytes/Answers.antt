@@ -9,7 +9,6 @@ use Rattle.header_format.specs.Format.{header_bytes}
 use Rattle.opening.specs.Opening.{max_candidates, opened}
 use Rattle.key_bytes.specs.KeyBytes.{keys_offset, keys_size}
 use Rattle.opening.proofs.OpenedLaws.{opened_inside}
-use borrow.Author.Rules.{rules}
 use Rattle.key_bytes.proofs.key_bytes.Goals as goal
 
 inside : (candidates codes : List ℕ) (host_size : ℕ) {answer : Opened} {layout : Layout} → answer ≡ opened candidates codes host_size → answer ≡ Accepted layout

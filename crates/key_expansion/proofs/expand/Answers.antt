@@ -2,7 +2,6 @@
 use mathlib.Core.Path.{ap, ◌∙◌}
 use Rattle.aes_words.specs.Words.{in_fours}
 use Rattle.key_expansion.specs.KeyExpansion.{round_keys}
-use borrow.Author.Rules.{rules}
 use Rattle.key_expansion.proofs.expand.Goals as goal
 
 pub returns : goal.returns

@@ -1,12 +1,8 @@
 -- `key_expansion::in_fours` meets its contract. The loop's invariant: the first r round keys are in their places.
-use mathlib.Core.Path.{◌≡◌, refl, sym, ap, ◌∙◌}
-use Prim.Native.Nat.{ℕ, ◌-◌, ◌≤◌}
-use native.Mathlib.Omega.{arith}
-use lib.{ListN.{length, take, length-set}, Seq.take_all}
-use mathlib.Core.List.{[]}
+use mathlib.Core.Path.{◌≡◌}
+use Prim.Native.Nat.{◌-◌, ◌≤◌}
+use lib.{ListN.{length, take}}
 use Rattle.aes_words.specs.Words.{in_fours}
-use Rattle.aes_words.proofs.FoursLaws.{next_four}
-use borrow.Author.Rules.{rules}
 use Rattle.key_expansion.proofs.in_fours.Given as goal
 
 abbrev pub invariant-loop-r : goal.invariant-loop-r

@@ -1,11 +1,8 @@
 -- `key_expansion::key_words` meets its contract. The loop's invariant: the first i words are the key's.
-use mathlib.Core.Path.{◌≡◌, refl, sym, ap, ◌∙◌}
-use Prim.Native.Nat.{ℕ, ◌-◌, ◌≤◌}
-use native.Mathlib.Omega.{arith}
-use lib.ListN.{length, take, length-set}
+use mathlib.Core.Path.{◌≡◌}
+use Prim.Native.Nat.{◌-◌, ◌≤◌}
+use lib.ListN.{length, take}
 use Rattle.aes_words.specs.Words.{in_fours}
-use Rattle.aes_words.proofs.FoursLaws.{next_four}
-use borrow.Author.Rules.{rules}
 use Rattle.key_expansion.proofs.key_words.Given as goal
 
 abbrev pub invariant-loop-i : goal.invariant-loop-i

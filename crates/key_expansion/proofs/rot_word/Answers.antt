@@ -3,7 +3,6 @@ use mathlib.Core.Path.{refl}
 use Rattle.bits.specs.Bits.{entries}
 use Rattle.aes_words.specs.Words.{word}
 use Rattle.key_expansion.specs.KeyExpansion.{rot_word}
-use borrow.Author.Rules.{rules}
 use Rattle.key_expansion.proofs.rot_word.Goals as goal
 
 pub returns : goal.returns

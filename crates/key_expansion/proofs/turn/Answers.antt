@@ -2,7 +2,6 @@
 use mathlib.Core.Path.{ap, ap₂, ◌∙◌}
 use Rattle.aes_words.specs.Words.{sub_word, add_word}
 use Rattle.key_expansion.proofs.ExpansionLaws.{turned_eighth, turned_half, turned_other}
-use borrow.Author.Rules.{rules}
 use Rattle.key_expansion.proofs.turn.Goals as goal
 
 pub returns-then-i-eq0 : goal.returns-then-i-eq0

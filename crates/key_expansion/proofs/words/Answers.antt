@@ -1,8 +1,7 @@
 use mathlib.Core.Path.{◌≡◌, refl, sym, ap, ap₂, ◌∙◌}
-use Prim.Native.Nat.{ℕ, ◌-◌, ◌≤◌}
+use Prim.Native.Nat.{ℕ, ◌-◌}
 use native.Mathlib.Omega.{arith}
-use lib.{ListN.{length, take, length-set}, Seq.take_all}
-use Rattle.aes_tables.specs.SBox.{ByTables}
+use lib.{ListN.{length-set}, Seq.take_all}
 use Rattle.aes_words.specs.Words.{add_word}
 use Rattle.key_expansion.specs.KeyExpansion.{grown}
 use Rattle.key_expansion.proofs.ExpansionLaws.{next_word_lem}

@@ -1,13 +1,9 @@
 -- `key_expansion::words` meets its contract. The loop's invariant: the first i words are grown from the first eight.
-use mathlib.Core.Path.{◌≡◌, refl, sym, ap, ap₂, ◌∙◌}
-use Prim.Native.Nat.{ℕ, ◌-◌, ◌≤◌}
-use native.Mathlib.Omega.{arith}
-use lib.{ListN.{length, take, length-set}, Seq.take_all}
+use mathlib.Core.Path.{◌≡◌}
+use Prim.Native.Nat.{◌-◌, ◌≤◌}
+use lib.{ListN.{length, take}}
 use Rattle.aes_tables.specs.SBox.{ByTables}
-use Rattle.aes_words.specs.Words.{add_word}
 use Rattle.key_expansion.specs.KeyExpansion.{grown}
-use Rattle.key_expansion.proofs.ExpansionLaws.{next_word_lem}
-use borrow.Author.Rules.{rules}
 use Rattle.key_expansion.proofs.words.Given as goal
 
 abbrev pub invariant-loop-i : goal.invariant-loop-i

@@ -1,6 +1,5 @@
 -- `layout::is_data_area` meets its contract: whole sectors first, then the place.
-use Rattle.std.proofs.Common.{sym, ◌∙◌, rules}
-use borrow.Author.Tests.{not-true, not-false}
+use Rattle.std.proofs.Common.{sym, ◌∙◌}
 use Rattle.layout.specs.Rules.{data_area_rule}
 use Rattle.layout.proofs.is_data_area.Goals as goal
 

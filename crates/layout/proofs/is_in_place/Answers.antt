@@ -1,6 +1,6 @@
 -- `layout::is_in_place` meets its contract: a sum that wraps is past every host, one that does not is the sum of the rule, and then the kinds
 -- one by one.
-use Rattle.std.proofs.Common.{ℕ, ◌≡◌, ◌≤◌, ◌+◌, ◌-◌, leb, sym, arith, rules, eq-eqb, ne_eqb, le-leb}
+use Rattle.std.proofs.Common.{ℕ, ◌≡◌, ◌≤◌, ◌+◌, ◌-◌, leb, sym, arith, eq-eqb, ne_eqb, le-leb}
 use borrow.Author.Tests.{lt-leb}
 use Rattle.layout.specs.Rules.{place_rule, headers_size}
 use Rattle.layout.proofs.RuleLaws.{past_backups}

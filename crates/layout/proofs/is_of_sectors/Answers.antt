@@ -1,9 +1,9 @@
 -- `layout::is_of_sectors` meets its contract: Z first, then the size, and then the three multiples by one mask.
-use Rattle.std.proofs.Common.{arith, rules, le-leb}
-use mathlib.Core.{Path.{◌≡◌, sym, ap, ◌∙◌}, Bool.{Bool, true, ◌&&◌}}
+use Rattle.std.proofs.Common.{arith, le-leb}
+use mathlib.Core.{Path.{sym, ap, ◌∙◌}, Bool.{Bool, ◌&&◌}}
 use lib.Bits.{bit_or}
-use borrow.Author.Tests.{lt-leb, not-true, not-false}
-use Rattle.layout.specs.Rules.{multiple, sector_size_rule, sectors_rule}
+use borrow.Author.Tests.{lt-leb}
+use Rattle.layout.specs.Rules.{multiple, sectors_rule}
 use Rattle.layout.proofs.SectorSizeLaws.{sector_size_least, below_none, both_multiple}
 use Rattle.layout.proofs.is_of_sectors.Goals as goal
 

@@ -1,6 +1,5 @@
 -- `layout::is_sound` meets its contract: the host's size first, then the data area.
-use borrow.Author.Tests.{not-true, not-false}
-use Rattle.std.proofs.Common.{sym, ◌∙◌, rules}
+use Rattle.std.proofs.Common.{sym, ◌∙◌}
 use Rattle.layout.specs.Rules.{sound}
 use Rattle.layout.proofs.is_sound.Goals as goal
 

@@ -1,5 +1,5 @@
 -- `layout::refusal` meets its contract, by the cases of the answer.
-use Rattle.std.proofs.Common.{refl, rules}
+use Rattle.std.proofs.Common.{refl}
 use Rattle.layout.specs.Opened.{opened_refusal}
 use Rattle.layout.proofs.refusal.Goals as goal
 

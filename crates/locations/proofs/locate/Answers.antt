@@ -2,8 +2,7 @@
 use mathlib.Core.{Path.{◌≡◌, sym, ◌∙◌}, Bool.true}
 use native.Mathlib.Nat.{le_trans}
 use lib.Dec.{lit≤}
-use borrow.Author.Rules.{rules}
-use borrow.Author.Tests.{le-leb, lt-leb, not-true, not-false}
+use borrow.Author.Tests.{le-leb, lt-leb}
 use Rattle.layout.specs.Rules.{host_size_rule}
 use Rattle.layout.proofs.RuleLaws.{host_size_least}
 use Rattle.locations.specs.Locations.{located, code_rule, location_of, locations, offset_from}

@@ -1,8 +1,6 @@
 -- `making::plain` meets its contract.
 use mathlib.Core.Path.{sym, ◌∙◌}
-use borrow.Author.Tests.{not-true, not-false}
 use Rattle.making.specs.Views.{plain_view, plain_of}
-use borrow.Author.Rules.{rules}
 use Rattle.making.proofs.plain.Goals as goal
 
 pub returns-then-not-is_sound : goal.returns-then-not-is_sound

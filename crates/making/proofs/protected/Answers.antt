@@ -1,6 +1,5 @@
 -- `making::protected` meets its contract: the pair's answer decides, and a sound layout ends far below 2^64.
 use native.Mathlib.Omega.{arith}
-use borrow.Author.Rules.{rules}
 use Rattle.layout.proofs.RuleLaws.{sound_end_le}
 use Rattle.protection.specs.Protection.{area_end}
 use Rattle.pairing.proofs.PairLaws.{pair_hidden_sound}

@@ -2,7 +2,6 @@
 use native.Mathlib.Omega.{arith}
 use lib.ListN.{length-take}
 use borrow.Author.Tests.{eq-eqb, ne_eqb}
-use borrow.Author.Rules.{rules}
 use Rattle.map_input.specs.MapInput.{opened_input}
 use Rattle.map_input.proofs.open_input.Goals as goal
 

@@ -1,9 +1,8 @@
-use Prim.Native.Nat.{ℕ, ◌+◌, ◌-◌, ◌^◌, ◌<◌}
+use Prim.Native.Nat.{ℕ, ◌+◌, ◌-◌}
 use mathlib.Core.{Path.{◌≡◌, sym, ap, ◌∙◌}, List.{List, ◌++◌}}
 use native.Mathlib.Omega.{arith}
-use borrow.Author.Rules.{rules}
-use lib.ListN.{length, drop, length-set}
-use Rattle.map_output.specs.Decimal.{digits, decimal}
+use lib.ListN.{drop, length-set}
+use Rattle.map_output.specs.Decimal.{digits}
 use Rattle.map_output.proofs.DigitLaws.{digits_none, written_last, written_digit, fewer_digits}
 use Rattle.map_output.proofs.decimal.Goals as goal
 

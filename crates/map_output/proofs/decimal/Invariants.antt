@@ -1,11 +1,8 @@
 -- `map_output::decimal` meets its contract. The loop's invariant: the digits that are left to write, and those that are written, are the number's.
-use Prim.Native.Nat.{ℕ, ◌+◌, ◌-◌, ◌^◌, ◌<◌}
-use mathlib.Core.{Path.{◌≡◌, sym, ap, ◌∙◌}, List.{List, ◌++◌}}
-use native.Mathlib.Omega.{arith}
-use borrow.Author.Rules.{rules}
-use lib.ListN.{length, drop, length-set}
+use Prim.Native.Nat.{◌^◌, ◌<◌}
+use mathlib.Core.{Path.{◌≡◌}, List.{◌++◌}}
+use lib.ListN.{length, drop}
 use Rattle.map_output.specs.Decimal.{digits, decimal}
-use Rattle.map_output.proofs.DigitLaws.{digits_none, written_last, written_digit, fewer_digits}
 use Rattle.map_output.proofs.decimal.Given as goal
 
 abbrev pub invariant-loop-rest : goal.invariant-loop-rest

@@ -1,7 +1,6 @@
 -- `map_output::layout_lines` meets its contract.
 use Rattle.map_output.specs.MapOutput.{layout_lines}
 use Rattle.map_output.proofs.PutLaws.{written_append, written_first}
-use borrow.Author.Rules.{rules}
 use Rattle.map_output.proofs.layout_lines.Goals as goal
 
 pub returns : goal.returns

@@ -1,10 +1,7 @@
 -- `map_output::put` meets its contract. The loop's invariant: the bytes passed are copied.
-use Prim.Native.Nat.{ℕ, ◌+◌, ◌-◌, ◌≤◌, ◌<◌}
-use mathlib.Core.{Path.{◌≡◌, sym, ap, ◌∙◌}, List.{List, ◌++◌}}
-use native.Mathlib.Numerals.{add-one}
-use native.Mathlib.Omega.{arith}
-use borrow.Author.Rules.{rules}
-use lib.{ListN.{length, take, drop, set, get_or, length-set}, Seq.{paste, paste-zero, paste-suc, take_all}}
+use Prim.Native.Nat.{◌-◌, ◌≤◌}
+use mathlib.Core.{Path.{◌≡◌}}
+use lib.{ListN.{length}, Seq.{paste}}
 use Rattle.map_output.proofs.put.Given as goal
 
 abbrev pub invariant-loop-i : goal.invariant-loop-i

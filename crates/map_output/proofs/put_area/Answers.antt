@@ -1,7 +1,6 @@
 -- `map_output::put_area` meets its contract.
 use Rattle.map_output.specs.MapOutput.{area_lines}
 use Rattle.map_output.proofs.PutLaws.{written_append}
-use borrow.Author.Rules.{rules}
 use Rattle.map_output.proofs.put_area.Goals as goal
 
 pub returns : goal.returns

@@ -1,5 +1,4 @@
 -- `map_output::put_either` meets its contract.
-use borrow.Author.Rules.{rules}
 use Rattle.map_output.specs.MapOutput.{either_line}
 use Rattle.map_output.proofs.put_either.Goals as goal
 

@@ -1,7 +1,6 @@
 -- `map_output::put_header` meets its contract.
 use Rattle.map_output.specs.MapOutput.{header_lines}
 use Rattle.map_output.proofs.PutLaws.{written_append}
-use borrow.Author.Rules.{rules}
 use Rattle.map_output.proofs.put_header.Goals as goal
 
 pub returns : goal.returns

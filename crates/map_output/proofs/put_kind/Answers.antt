@@ -1,5 +1,4 @@
 -- `map_output::put_kind` meets its contract.
-use borrow.Author.Rules.{rules}
 use Rattle.map_output.specs.MapOutput.{kind_line}
 use Rattle.map_output.proofs.put_kind.Goals as goal
 

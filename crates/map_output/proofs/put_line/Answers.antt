@@ -3,7 +3,6 @@ use mathlib.Core.List.{[], ◌∷◌}
 use native.Mathlib.Omega.{arith}
 use Rattle.map_output.specs.MapOutput.{text_line, Written}
 use Rattle.map_output.proofs.PutLaws.{written_append, written_within}
-use borrow.Author.Rules.{rules}
 use Rattle.map_output.proofs.put_line.Goals as goal
 
 pub returns : goal.returns

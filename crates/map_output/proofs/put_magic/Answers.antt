@@ -1,5 +1,4 @@
 -- `map_output::put_magic` meets its contract.
-use borrow.Author.Rules.{rules}
 use Rattle.map_output.specs.MapOutput.{magic_line}
 use Rattle.map_output.proofs.put_magic.Goals as goal
 

@@ -4,7 +4,6 @@ use mathlib.Core.{List.List, Path.◌≡◌}
 use native.Mathlib.Omega.{arith}
 use lib.{ListN.{length, take, drop, length-drop}, Seq.take_all}
 use Rattle.map_output.specs.MapOutput.{number_line}
-use borrow.Author.Rules.{rules}
 use Rattle.map_output.proofs.put_number.Goals as goal
 
 pub returns : goal.returns

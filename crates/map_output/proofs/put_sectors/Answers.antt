@@ -2,7 +2,6 @@
 use Rattle.sector_map.specs.SectorMap.{sectors, first_sector}
 use Rattle.map_output.specs.MapOutput.{sector_lines}
 use Rattle.map_output.proofs.PutLaws.{written_append}
-use borrow.Author.Rules.{rules}
 use Rattle.map_output.proofs.put_sectors.Goals as goal
 
 pub returns : goal.returns

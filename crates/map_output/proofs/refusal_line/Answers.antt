@@ -1,7 +1,6 @@
 -- `map_output::refusal_line` meets its contract.
 use Rattle.map_output.specs.MapOutput.{refusal_line}
 use Rattle.map_output.proofs.PutLaws.{written_first}
-use borrow.Author.Rules.{rules}
 use Rattle.map_output.proofs.refusal_line.Goals as goal
 
 pub returns : goal.returns

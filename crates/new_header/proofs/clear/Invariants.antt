@@ -1,10 +1,7 @@
 -- `new_header::clear` meets its contract. The loop's invariant: as many zeros as were written, and the rest as it was.
 use Prim.Native.Nat.{◌≤◌, ◌-◌}
-use mathlib.Core.Path.{◌≡◌, refl}
-use native.Mathlib.Omega.{arith}
-use lib.ListN.{length, take, replicate, length-set}
-use borrow.Author.Rules.{rules}
-use Rattle.new_header.proofs.ZeroLaws.{zeros_more, zeros_all}
+use mathlib.Core.Path.{◌≡◌}
+use lib.ListN.{length, take, replicate}
 use Rattle.new_header.proofs.clear.Given as goal
 
 abbrev pub invariant-loop-i : goal.invariant-loop-i

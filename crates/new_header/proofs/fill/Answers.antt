@@ -1,7 +1,6 @@
 -- `new_header::fill` meets its contract.
 use mathlib.Core.Path.{refl}
 use Rattle.new_header.specs.NewHeader.{new_header}
-use borrow.Author.Rules.{rules}
 use Rattle.new_header.proofs.fill.Goals as goal
 
 pub returns : goal.returns

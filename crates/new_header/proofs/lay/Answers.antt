@@ -1,6 +1,5 @@
 -- `new_header::lay` meets its contract.
 use mathlib.Core.Path.{refl, sym, ◌∙◌}
-use borrow.Author.Rules.{rules}
 use Rattle.new_header.specs.NewHeader.{header_over}
 use Rattle.new_header.proofs.LengthLaws.{lengths_right}
 use Rattle.new_header.proofs.lay.Goals as goal

@@ -1,6 +1,5 @@
 -- `new_header::new_fields` meets its contract, field by field.
 use mathlib.Core.Path.{◌≡◌}
-use borrow.Author.Rules.{rules}
 use Rattle.new_header.specs.NewHeader.{new_fields}
 use Rattle.new_header.proofs.new_fields.Goals as goal
 

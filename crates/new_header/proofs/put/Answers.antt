@@ -1,6 +1,5 @@
 -- `new_header::put` meets its contract.
 use mathlib.Core.Path.{◌∙◌}
-use borrow.Author.Rules.{rules}
 use Rattle.copy.proofs.CopyLaws.{copied_fits}
 use Rattle.new_header.proofs.put.Goals as goal
 

@@ -1,7 +1,6 @@
 -- `new_header::put_checksum` meets its contract.
 use Prim.Native.Nat.{ℕ}
 use mathlib.Core.{List.List, Path.{ap, ◌∙◌}}
-use borrow.Author.Rules.{rules}
 use Rattle.fields.specs.Bytes.{overlay}
 use Rattle.numbers.specs.Numbers.{big_endian_bytes}
 use Rattle.crc32.specs.Crc32.{crc32}

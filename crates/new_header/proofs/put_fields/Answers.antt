@@ -1,7 +1,6 @@
 -- `new_header::put_fields` meets its contract, one after the other.
 use mathlib.Core.Path.{refl}
 use Rattle.new_header.specs.NewHeader.{contents, laid}
-use borrow.Author.Rules.{rules}
 use Rattle.new_header.proofs.put_fields.Goals as goal
 
 pub returns : goal.returns

@@ -2,7 +2,6 @@
 use Prim.Native.Nat.{ℕ, ◌+◌, ◌-◌}
 use mathlib.Core.{List.List, Path.{ap, ◌∙◌}}
 use borrow.Rule.Slice.PartMut.{put_mid}
-use borrow.Author.Rules.{rules}
 use Rattle.fields.proofs.OverlayLaws.{overlay_filled}
 use Rattle.numbers.specs.Numbers.{big_endian_bytes}
 use Rattle.numbers.proofs.WrittenLaws.{big_endian_bytes_length}

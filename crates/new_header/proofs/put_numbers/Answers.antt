@@ -2,7 +2,6 @@
 -- one number more, laid over what the numbers before it have left
 use Prim.Native.Nat.{ℕ}
 use mathlib.Core.{Path.{◌≡◌, refl, ap, ◌∙◌}, List.List}
-use borrow.Author.Rules.{rules}
 use Rattle.fields.specs.{Bytes.overlay, declared.Field.Field}
 use Rattle.numbers.specs.Numbers.{big_endian_bytes}
 use Rattle.header_format.specs.Format.{version_field, min_program_version_field, hidden_size_field, data_size_field, data_start_field}

@@ -1,9 +1,7 @@
-use Prim.Native.Nat.{◌≤◌}
-use mathlib.Core.{Path.{◌≡◌, refl, sym, ◌∙◌}, List.{◌++◌, append-nil}}
+use mathlib.Core.{Path.{refl, sym, ◌∙◌}, List.{append-nil}}
 use native.Mathlib.Omega.{arith}
 use borrow.Author.Rules.{rules}
-use lib.{ListN.{length, drop, length-set}, Seq.drop-length}
-use Rattle.numbers.specs.Numbers.{big_endian_bytes}
+use lib.{ListN.{length-set}, Seq.drop-length}
 use Rattle.numbers.proofs.WrittenLaws.{written_back, written_front}
 use Rattle.number_writing.proofs.write_big_endian.Goals as goal
 

@@ -1,12 +1,9 @@
 -- `number_writing::write_big_endian` meets its contract. The loop's invariant: what is left to write, and then what is written, are the bytes
 -- of the whole.
 use Prim.Native.Nat.{◌≤◌}
-use mathlib.Core.{Path.{◌≡◌, refl, sym, ◌∙◌}, List.{◌++◌, append-nil}}
-use native.Mathlib.Omega.{arith}
-use borrow.Author.Rules.{rules}
-use lib.{ListN.{length, drop, length-set}, Seq.drop-length}
+use mathlib.Core.{Path.{◌≡◌}, List.{◌++◌}}
+use lib.{ListN.{length, drop}}
 use Rattle.numbers.specs.Numbers.{big_endian_bytes}
-use Rattle.numbers.proofs.WrittenLaws.{written_back, written_front}
 use Rattle.number_writing.proofs.write_big_endian.Given as goal
 
 abbrev pub invariant-loop-unwritten : goal.invariant-loop-unwritten

@@ -1,10 +1,8 @@
-use mathlib.Core.{Path.{refl, ◌≡◌, sym, ◌∙◌}, List.◌++◌}
+use mathlib.Core.{Path.{refl, sym, ◌∙◌}}
 use native.Mathlib.Nat.{sub-zero}
-use Prim.Native.Nat.{◌≤◌, ◌-◌}
 use native.Mathlib.Omega.{arith}
 use borrow.Author.Rules.{rules}
-use lib.ListN.{length, take, length-set}
-use Rattle.numbers.specs.Numbers.{little_endian_bytes}
+use lib.ListN.{length, length-set}
 use Rattle.numbers.proofs.WrittenLaws.{written_suc, written_end}
 use Rattle.number_writing.proofs.write_little_endian.Goals as goal
 

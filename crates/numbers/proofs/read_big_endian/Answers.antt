@@ -1,8 +1,7 @@
-use Prim.Native.Nat.{ℕ, ◌-◌, ◌%◌, ◌^◌, ◌≤◌}
+use Prim.Native.Nat.{ℕ}
 use mathlib.Core.{Path.◌≡◌, List.List}
 use native.Mathlib.Omega.{arith}
-use borrow.Author.Rules.{rules}
-use lib.{ListN.{length, take}, Seq.take_all}
+use lib.{ListN.{take}, Seq.take_all}
 use Rattle.numbers.specs.Numbers.{big_endian, big_endian_from}
 use Rattle.numbers.proofs.NumbersLaws.{big_endian_take, big_endian_lt, read_as}
 use Rattle.numbers.proofs.read_big_endian.Goals as goal

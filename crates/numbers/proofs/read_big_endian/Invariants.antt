@@ -1,11 +1,8 @@
 -- `numbers::read_big_endian` meets its contract. The loop's invariant: the number is what the bytes passed spell, modulo 2^64.
-use Prim.Native.Nat.{ℕ, ◌-◌, ◌%◌, ◌^◌, ◌≤◌}
-use mathlib.Core.{Path.◌≡◌, List.List}
-use native.Mathlib.Omega.{arith}
-use borrow.Author.Rules.{rules}
-use lib.{ListN.{length, take}, Seq.take_all}
-use Rattle.numbers.specs.Numbers.{big_endian, big_endian_from}
-use Rattle.numbers.proofs.NumbersLaws.{big_endian_take, big_endian_lt, read_as}
+use Prim.Native.Nat.{◌-◌, ◌%◌, ◌^◌, ◌≤◌}
+use mathlib.Core.{Path.◌≡◌}
+use lib.{ListN.{length, take}}
+use Rattle.numbers.specs.Numbers.{big_endian}
 use Rattle.numbers.proofs.read_big_endian.Given as goal
 
 abbrev pub invariant-loop-i : goal.invariant-loop-i

@@ -1,8 +1,7 @@
-use Prim.Native.Nat.{ℕ, ◌+◌, ◌-◌, ◌%◌, ◌^◌, ◌≤◌}
+use Prim.Native.Nat.{ℕ, ◌+◌, ◌-◌}
 use mathlib.Core.{Path.{◌≡◌, ap}, List.List}
 use native.Mathlib.Omega.{arith}
-use borrow.Author.Rules.{rules}
-use lib.{ListN.{length, drop}, Seq.drop-length}
+use lib.{Seq.drop-length}
 use Rattle.numbers.specs.Numbers.{little_endian}
 use Rattle.numbers.proofs.NumbersLaws.{little_endian_drop, little_endian_lt, read_as}
 use Rattle.numbers.proofs.read_little_endian.Goals as goal

@@ -1,11 +1,8 @@
 -- `numbers::read_little_endian` meets its contract. The loop's invariant: the number is what the bytes from `left` on spell, modulo 2^64.
-use Prim.Native.Nat.{ℕ, ◌+◌, ◌-◌, ◌%◌, ◌^◌, ◌≤◌}
-use mathlib.Core.{Path.{◌≡◌, ap}, List.List}
-use native.Mathlib.Omega.{arith}
-use borrow.Author.Rules.{rules}
-use lib.{ListN.{length, drop}, Seq.drop-length}
+use Prim.Native.Nat.{◌%◌, ◌^◌, ◌≤◌}
+use mathlib.Core.{Path.{◌≡◌}}
+use lib.{ListN.{length, drop}}
 use Rattle.numbers.specs.Numbers.{little_endian}
-use Rattle.numbers.proofs.NumbersLaws.{little_endian_drop, little_endian_lt, read_as}
 use Rattle.numbers.proofs.read_little_endian.Given as goal
 
 abbrev pub invariant-loop-left : goal.invariant-loop-left

@@ -1,5 +1,4 @@
 -- `ondristela::ondristela_read_extent` meets its contract, which is that of the function it hands on to.
-use borrow.Author.Rules.{rules}
 use Rattle.ondristela.proofs.ondristela_read_extent.Goals as goal
 
 pub returns : goal.returns

@@ -1,5 +1,4 @@
 -- `ondristela::ondristela_view_protected` meets its contract, which is that of the function it hands on to.
-use borrow.Author.Rules.{rules}
 use Rattle.ondristela.proofs.ondristela_view_protected.Goals as goal
 
 pub returns : goal.returns

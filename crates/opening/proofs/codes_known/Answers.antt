@@ -1,10 +1,9 @@
-use Prim.Native.Nat.{◌≤◌, ◌<◌, ◌-◌}
-use mathlib.Core.{Path.{◌≡◌, sym, ◌∙◌}, Bool.◌&&◌}
+use Prim.Native.Nat.{◌<◌}
+use mathlib.Core.{Path.{sym, ◌∙◌}}
 use native.Mathlib.Omega.{arith}
-use lib.ListN.{length, drop}
+use lib.ListN.{length}
 use borrow.Author.Rules.{rules}
 use Rattle.locations.specs.Locations.{code_rule}
-use Rattle.opening.specs.Opening.{codes_rule}
 use Rattle.opening.proofs.CodeLaws.{codes_step, codes_end}
 use Rattle.opening.proofs.codes_known.Goals as goal
 

@@ -1,12 +1,9 @@
 -- `opening::codes_known` meets its contract. The loop's invariant: the largest code so far and what is left decide for all.
-use Prim.Native.Nat.{◌≤◌, ◌<◌, ◌-◌}
-use mathlib.Core.{Path.{◌≡◌, sym, ◌∙◌}, Bool.◌&&◌}
-use native.Mathlib.Omega.{arith}
+use Prim.Native.Nat.{◌≤◌, ◌-◌}
+use mathlib.Core.{Path.{◌≡◌}, Bool.◌&&◌}
 use lib.ListN.{length, drop}
-use borrow.Author.Rules.{rules}
 use Rattle.locations.specs.Locations.{code_rule}
 use Rattle.opening.specs.Opening.{codes_rule}
-use Rattle.opening.proofs.CodeLaws.{codes_step, codes_end}
 use Rattle.opening.proofs.codes_known.Given as goal
 
 abbrev pub invariant-loop-i : goal.invariant-loop-i

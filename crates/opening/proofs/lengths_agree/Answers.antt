@@ -1,7 +1,6 @@
 -- `opening::lengths_agree` meets its contract. The product cannot wrap: there are at most 64 codes.
 use borrow.Author.Tests.{le-leb, lt-leb}
 use Rattle.opening.specs.Opening.{lengths_rule}
-use borrow.Author.Rules.{rules}
 use Rattle.opening.proofs.lengths_agree.Goals as goal
 
 pub returns-then-codes-lt1 : goal.returns-then-codes-lt1

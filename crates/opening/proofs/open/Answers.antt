@@ -1,9 +1,7 @@
 -- `opening::open` meets its contract: three tests in order, and then the search.
 use mathlib.Core.{Path.{◌≡◌, sym, ◌∙◌}, Bool.true}
-use borrow.Author.Tests.{not-true, not-false}
-use Rattle.opening.specs.Opening.{lengths_rule, codes_rule, opened}
+use Rattle.opening.specs.Opening.{lengths_rule, opened}
 use Rattle.opening.proofs.OpenedLaws.{lengths_most, lengths_whole}
-use borrow.Author.Rules.{rules}
 use Rattle.opening.proofs.open.Goals as goal
 
 pub returns-then-not-lengths_agree : goal.returns-then-not-lengths_agree

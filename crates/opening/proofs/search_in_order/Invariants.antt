@@ -1,16 +1,9 @@
 -- `opening::search_in_order` meets its contract. The loop's invariant: the refusal remembered is the answer over the candidates so far.
-use Prim.Native.Nat.{ℕ, ◌≤◌, ◌-◌, ◌+◌}
-use native.Mathlib.Nat.{add-sub_cancel_left}
-use native.Mathlib.Omega.{arith}
-use mathlib.Core.Path.{◌≡◌, sym, ◌∙◌, ap}
-use lib.{ListN.{length, take, get_or}, Seq.take-length}
-use borrow.Author.Rules.{rules}
+use Prim.Native.Nat.{◌≤◌, ◌-◌}
+use mathlib.Core.Path.{◌≡◌}
+use lib.{ListN.{length, take}}
 use Rattle.layout.specs.declared.Opened.TheVariants.{Refused}
-use Rattle.locations.specs.Locations.{location_of, locations}
-use Rattle.header.specs.Header.{judge}
-use Rattle.opening.specs.Opening.{candidate_at, further, searched, judgements}
-use Rattle.opening.proofs.CodeLaws.{codes_rule_at}
-use Rattle.opening.proofs.SearchLaws.{searched_next, searched_accepted}
+use Rattle.opening.specs.Opening.{searched}
 use Rattle.opening.proofs.search_in_order.Given as goal
 
 abbrev pub invariant-loop-index : goal.invariant-loop-index

@@ -1,8 +1,5 @@
 -- `pairing::check_pair` meets its contract: both layouts sound, then the two nested.
-use mathlib.Core.{Path.{◌≡◌, sym, ◌∙◌}, Bool.true}
-use borrow.Author.Rules.{rules}
-use borrow.Author.Tests.{not-true, not-false}
-use Rattle.layout.specs.Rules.{sound}
+use mathlib.Core.{Path.{sym, ◌∙◌}}
 use Rattle.pairing.specs.Pairs.{paired}
 use Rattle.pairing.proofs.check_pair.Goals as goal
 

@@ -1,9 +1,6 @@
 -- `pairing::do_nest` meets its contract: each return is under the tests that decide the rule, in their order.
-use mathlib.Core.{Path.{◌≡◌, ◌∙◌}, Bool.true}
-use lib.Dec.{eqb}
-use borrow.Author.Rules.{rules}
+use mathlib.Core.{Path.{◌∙◌}}
 use borrow.Author.Tests.{eq-eqb, ne_eqb, le-leb, lt-leb}
-use Rattle.layout.specs.Rules.{standard, hidden}
 use Rattle.protection.specs.Protection.{area_end}
 use Rattle.pairing.specs.Pairs.{nests}
 use Rattle.pairing.proofs.PairLaws.{leb_sub_add}

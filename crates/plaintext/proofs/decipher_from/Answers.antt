@@ -2,7 +2,6 @@
 use mathlib.Core.Path.{◌∙◌}
 use native.Mathlib.Omega.{arith}
 use Rattle.plaintext.proofs.PlaintextLaws.{deciphered_out}
-use borrow.Author.Rules.{rules}
 use Rattle.plaintext.proofs.decipher_from.Goals as goal
 
 pub returns : goal.returns

@@ -6,7 +6,6 @@ use mathlib.Core.List.{List}
 use lib.ListN.{length}
 use borrow.Rule.Slice.PartMut.{put_mid}
 use Rattle.plaintext.proofs.PlaintextLaws.{enciphered_in}
-use borrow.Author.Rules.{rules}
 use Rattle.plaintext.proofs.encipher_into.Goals as goal
 
 pub returns : goal.returns

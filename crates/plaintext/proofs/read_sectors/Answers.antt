@@ -4,7 +4,6 @@ use native.Mathlib.Omega.{arith}
 use Rattle.answers.specs.Answers.{is_accepted}
 use Rattle.judgement.proofs.{JudgingLaws.{read_passed, passed_ends}, PlacementLaws.{placed_accepted, placed_refused, placed_refused_at}}
 use Rattle.plaintext.proofs.PlaintextLaws.{plain_filled_accepted, plain_filled_refused}
-use borrow.Author.Rules.{rules}
 use Rattle.plaintext.proofs.read_sectors.Goals as goal
 
 pub decipher_from-requires : goal.decipher_from-requires

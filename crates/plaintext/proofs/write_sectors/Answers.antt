@@ -4,7 +4,6 @@ use native.Mathlib.Omega.{arith}
 use Rattle.answers.specs.Answers.{is_accepted}
 use Rattle.judgement.proofs.{JudgingLaws.{write_passed, passed_ends}, PlacementLaws.{placed_accepted, placed_refused, placed_refused_at}}
 use Rattle.plaintext.proofs.PlaintextLaws.{plain_written_accepted, plain_written_refused}
-use borrow.Author.Rules.{rules}
 use Rattle.plaintext.proofs.write_sectors.Goals as goal
 
 pub encipher_into-requires : goal.encipher_into-requires

@@ -1,6 +1,5 @@
 -- `protection::is_range` meets its contract: each return is under the tests that decide the rule, in their order.
-use borrow.Author.Rules.{rules}
-use borrow.Author.Tests.{eq-eqb, ne_eqb, le-leb, lt-leb, lt-ltb, le-ltb}
+use borrow.Author.Tests.{eq-eqb, ne_eqb, lt-leb, lt-ltb, le-ltb}
 use Rattle.protection.specs.Protection.{protection_rule}
 use Rattle.protection.proofs.ProtectionLaws.{range_by_end}
 use Rattle.protection.proofs.is_range.Goals as goal

@@ -1,7 +1,5 @@
 -- `protection::is_sound` meets its contract: the layout first, then the protected range.
-use borrow.Author.Rules.{rules}
 use mathlib.Core.Path.{sym, ◌∙◌}
-use borrow.Author.Tests.{not-true, not-false}
 use Rattle.protection.specs.Protection.{sound_protection, protection_rule}
 use Rattle.protection.proofs.is_sound.Goals as goal
 

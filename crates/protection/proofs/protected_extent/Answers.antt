@@ -1,5 +1,4 @@
 -- `protection::protected_extent` meets its contract, by what is protected.
-use borrow.Author.Rules.{rules}
 use Rattle.protection.specs.Protection.{protected_extent}
 use Rattle.protection.proofs.protected_extent.Goals as goal
 

@@ -1,8 +1,7 @@
 -- `sector_map::host_sector` meets its contract.
 use mathlib.Core.Path.{sym, ◌∙◌}
-use borrow.Author.Tests.{le-ltb, lt-ltb, not-true, not-false}
+use borrow.Author.Tests.{le-ltb, lt-ltb}
 use Rattle.sector_map.specs.SectorMap.{host_sector, sectors, first_sector}
-use borrow.Author.Rules.{rules}
 use Rattle.sector_map.proofs.host_sector.Goals as goal
 
 pub returns-then-not-is_sound : goal.returns-then-not-is_sound

@@ -1,8 +1,6 @@
 -- `sector_map::sector_count` meets its contract.
 use mathlib.Core.Path.{sym, ◌∙◌}
-use borrow.Author.Tests.{not-true, not-false}
 use Rattle.sector_map.specs.SectorMap.{sector_count, sectors}
-use borrow.Author.Rules.{rules}
 use Rattle.sector_map.proofs.sector_count.Goals as goal
 
 pub returns-then-not-is_sound : goal.returns-then-not-is_sound

@@ -2,9 +2,8 @@
 use Prim.Native.Nat.{◌+◌, ◌/◌, ◌≤◌, ◌<◌}
 use native.Mathlib.Omega.{arith}
 use mathlib.Core.Path.{sym, ◌∙◌}
-use borrow.Author.Tests.{le-leb, lt-leb, le-ltb, lt-ltb, not-true, not-false}
+use borrow.Author.Tests.{le-leb, lt-leb, le-ltb, lt-ltb}
 use Rattle.sector_map.specs.SectorMap.{user_sector, sectors, first_sector}
-use borrow.Author.Rules.{rules}
 use Rattle.sector_map.proofs.user_sector.Goals as goal
 
 pub returns-then-not-is_sound : goal.returns-then-not-is_sound

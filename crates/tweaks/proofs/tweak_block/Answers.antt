@@ -6,7 +6,6 @@ use native.Mathlib.Omega.{arith}
 use Rattle.answers.specs.declared.Numbered.{Numbered, TheVariants.Number}
 use Rattle.tweaks.specs.{declared.Tweak.Tweak, Tweaks.{tweak_of, block_of}}
 use Rattle.numbers.proofs.WrittenLaws.{little_endian_bytes_pad}
-use borrow.Author.Rules.{rules}
 use Rattle.tweaks.proofs.tweak_block.Goals as goal
 
 abbrev tweak : Numbered → List ℕ → Tweak

@@ -1,6 +1,5 @@
 -- `tweaks::tweak_number` meets its contract: the tweak number is the host sector.
 use Rattle.tweaks.specs.Tweaks.{tweak_number}
-use borrow.Author.Rules.{rules}
 use Rattle.tweaks.proofs.tweak_number.Goals as goal
 
 pub returns : goal.returns

@@ -4,7 +4,6 @@ use mathlib.Core.List.{List}
 use Rattle.aes_words.specs.Words.{Words}
 use Rattle.aes.specs.Cipher.{through_cipher}
 use Rattle.xts.specs.Units.{blocks_under, first_tweak, converted_by, converted}
-use borrow.Author.Rules.{rules}
 use Rattle.xts.proofs.convert.Goals as goal
 
 pub returns : goal.returns

@@ -2,7 +2,6 @@
 use mathlib.Core.Path.{◌∙◌}
 use native.Mathlib.Omega.{arith}
 use Rattle.xts.proofs.RunLaws.{run_of_other_length, run_of_parts, run_past_numbers, run_fits}
-use borrow.Author.Rules.{rules}
 use Rattle.xts.proofs.convert_run.Goals as goal
 
 pub returns-then-from-into : goal.returns-then-from-into

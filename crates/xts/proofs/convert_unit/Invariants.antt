@@ -1,16 +1,10 @@
 -- `xts::convert_unit` meets its contract. The loop's invariant: what is done, and what the blocks that are left give, is the result.
-use mathlib.Core.Path.{◌≡◌, refl, ap, ap₂, ◌∙◌}
-use Prim.Native.Nat.{ℕ, ◌+◌, ◌-◌, ◌/◌, ◌%◌, ◌≤◌}
-use native.Mathlib.Omega.{arith}
-use mathlib.Core.List.{List, ◌++◌}
+use mathlib.Core.Path.{◌≡◌}
+use Prim.Native.Nat.{◌-◌, ◌/◌, ◌%◌, ◌≤◌}
+use mathlib.Core.List.{◌++◌}
 use lib.ListN.{length, take, drop}
-use Rattle.fields.proofs.OverlayLaws.{length_overlay}
-use Rattle.aes_words.specs.Words.{Words}
-use Rattle.aes_steps.specs.Blocks.{bytes_of}
 use Rattle.aes.specs.Cipher.{through_cipher}
-use Rattle.xts.specs.Units.{under_tweak, blocks_under}
-use Rattle.xts.proofs.UnitLaws.{next_block, blocks_done, length_bytes_of}
-use borrow.Author.Rules.{rules}
+use Rattle.xts.specs.Units.{blocks_under}
 use Rattle.xts.proofs.convert_unit.Given as goal
 
 abbrev pub invariant-loop-at : goal.invariant-loop-at

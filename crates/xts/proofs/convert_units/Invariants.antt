@@ -1,15 +1,9 @@
 -- `xts::convert_units` meets its contract. The loop's invariant: what is done, and what the units that are left give, is the result.
-use mathlib.Core.Path.{◌≡◌, refl, ap, ap₂, ◌∙◌}
-use Prim.Native.Nat.{ℕ, ◌+◌, ◌-◌, ◌/◌, ◌%◌, ◌^◌, ◌≤◌, ◌<◌}
-use native.Mathlib.Omega.{arith}
-use mathlib.Core.List.{List, ◌++◌}
+use mathlib.Core.Path.{◌≡◌}
+use Prim.Native.Nat.{◌+◌, ◌-◌, ◌/◌, ◌%◌, ◌^◌, ◌≤◌, ◌<◌}
+use mathlib.Core.List.{◌++◌}
 use lib.ListN.{length, take, drop}
-use Rattle.fields.proofs.OverlayLaws.{length_overlay, part_size, part_laid}
-use Rattle.aes_words.specs.Words.{Words}
-use Rattle.aes.specs.Cipher.{through_cipher}
-use Rattle.xts.specs.{Runs.in_units, Units.{blocks_under, converted_by, converted}}
-use Rattle.xts.proofs.UnitLaws.{next_unit, units_done, length_converted_by}
-use borrow.Author.Rules.{rules}
+use Rattle.xts.specs.{Runs.in_units, Units.{converted_by}}
 use Rattle.xts.proofs.convert_units.Given as goal
 
 abbrev pub invariant-loop-at : goal.invariant-loop-at

@@ -7,7 +7,6 @@ use Rattle.bits.specs.Bits.{entries}
 use Rattle.aes_steps.specs.Blocks.{byte_at, block, block_byte}
 use Rattle.aes_words.specs.Words.{word}
 use Rattle.xts_tweaks.specs.Tweaks.{raised_word, alpha_byte, times_alpha}
-use borrow.Author.Rules.{rules}
 use Rattle.xts_tweaks.proofs.times_alpha.Goals as goal
 
 pub returns : goal.returns

@@ -3,7 +3,6 @@ use mathlib.Core.Path.{refl}
 use Rattle.bits.specs.Bits.{entries}
 use Rattle.aes_steps.specs.Blocks.{byte_at, block, shift_rows}
 use Rattle.aes_words.specs.Words.{word}
-use borrow.Author.Rules.{rules}
 use Rattle.aes_steps.proofs.steps.shift_rows.Goals as goal
 
 pub returns : goal.returns

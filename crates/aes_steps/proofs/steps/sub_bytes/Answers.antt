@@ -3,7 +3,6 @@ use mathlib.Core.List.{[], ◌∷◌}
 use Rattle.bits.specs.Bits.{entries}
 use Rattle.aes_steps.specs.Blocks.{byte_at, block, sub_bytes}
 use Rattle.aes_words.specs.Words.{word, each_byte, sub_word}
-use borrow.Author.Rules.{rules}
 use Rattle.aes_steps.proofs.steps.sub_bytes.Goals as goal
 
 pub returns : goal.returns

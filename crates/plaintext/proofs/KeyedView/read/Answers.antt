@@ -1,6 +1,5 @@
 -- `plaintext::KeyedView::read` meets its contract: what the read answers and leaves, and the same view and key.
 use Rattle.plaintext.proofs.PlaintextLaws.{plain_read_post}
-use borrow.Author.Rules.{rules}
 use Rattle.plaintext.proofs.KeyedView.read.Goals as goal
 
 pub returns : goal.returns

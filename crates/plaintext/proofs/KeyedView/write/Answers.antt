@@ -2,7 +2,6 @@
 use mathlib.Core.Path.{ap, ◌∙◌}
 use Rattle.answers.specs.Answers.{locked_after}
 use Rattle.plaintext.proofs.PlaintextLaws.{plain_write_post}
-use borrow.Author.Rules.{rules}
 use Rattle.plaintext.proofs.KeyedView.write.Goals as goal
 
 pub returns : goal.returns

@@ -1,5 +1,4 @@
 -- `view::View::read` meets its contract: what the read answers and leaves, and the same view.
-use borrow.Author.Rules.{rules}
 use Rattle.view.proofs.OutcomeLaws.{read_post}
 use Rattle.view.proofs.View.read.Goals as goal
 

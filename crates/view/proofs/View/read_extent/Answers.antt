@@ -1,5 +1,4 @@
 -- `view::View::read_extent` meets its contract: where the read finds its bytes, and the same view.
-use borrow.Author.Rules.{rules}
 use mathlib.Core.Path.{refl}
 use Rattle.view.specs.Outcomes.{read_placed}
 use Rattle.view.proofs.View.read_extent.Goals as goal

@@ -1,5 +1,4 @@
 -- `view::View::write` meets its contract: what the write answers and leaves, and the lock after it.
-use borrow.Author.Rules.{rules}
 use mathlib.Core.Path.{ap, ◌∙◌}
 use Rattle.answers.specs.Answers.{locked_after}
 use Rattle.view.proofs.OutcomeLaws.{write_post}

@@ -1,5 +1,4 @@
 -- `view::View::write_extent` meets its contract: where the write finds its bytes, and the lock after it.
-use borrow.Author.Rules.{rules}
 use mathlib.Core.Path.{refl, ap, ◌∙◌}
 use Rattle.answers.specs.Answers.{placement_refusal}
 use Rattle.judgement.proofs.PlacementLaws.{placed_number}

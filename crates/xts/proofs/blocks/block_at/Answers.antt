@@ -5,7 +5,6 @@ use native.Mathlib.Omega.{arith}
 use mathlib.Core.List.{List, [], ◌∷◌}
 use lib.{ListN.{take, drop}, Seq.drop-drop}
 use Rattle.aes_words.specs.Words.{in_fours}
-use borrow.Author.Rules.{rules}
 use Rattle.xts.proofs.blocks.block_at.Goals as goal
 
 pub returns : goal.returns

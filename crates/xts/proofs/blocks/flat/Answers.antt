@@ -2,7 +2,6 @@
 use mathlib.Core.Path.{refl}
 use Rattle.bits.specs.Bits.{entries}
 use Rattle.aes_steps.specs.Blocks.{byte_at, block_byte, bytes_of}
-use borrow.Author.Rules.{rules}
 use Rattle.xts.proofs.blocks.flat.Goals as goal
 
 pub returns : goal.returns

@@ -3,7 +3,6 @@ use mathlib.Core.Path.{ap, ◌∙◌}
 use Rattle.aes_steps.specs.Blocks.{add_round_key}
 use Rattle.aes.specs.Cipher.{through_cipher}
 use Rattle.xts.specs.Units.{under_tweak}
-use borrow.Author.Rules.{rules}
 use Rattle.xts.proofs.blocks.under_tweak.Goals as goal
 
 pub returns : goal.returns

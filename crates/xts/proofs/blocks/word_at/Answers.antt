@@ -1,6 +1,5 @@
 -- `xts::blocks::word_at` meets its contract.
 use Rattle.aes_words.proofs.FoursLaws.{four_at}
-use borrow.Author.Rules.{rules}
 use Rattle.xts.proofs.blocks.word_at.Goals as goal
 
 pub returns : goal.returns

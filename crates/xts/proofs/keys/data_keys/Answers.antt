@@ -1,8 +1,6 @@
 -- `xts::keys::data_keys` meets its contract.
 use mathlib.Core.Path.{◌≡◌, sym, ap, ◌∙◌}
-use Prim.Native.Nat.{ℕ}
 use native.Mathlib.Omega.{arith}
-use mathlib.Core.List.{List}
 use lib.{ListN.length, Seq.length-take-le}
 use Rattle.key_expansion.specs.KeyExpansion.{round_keys}
 use Rattle.xts.specs.Units.{data_keys}

@@ -3,7 +3,6 @@ use mathlib.Core.Path.{ap, ◌∙◌}
 use Rattle.aes_words.specs.Words.{in_fours}
 use Rattle.aes.specs.Cipher.{cipher, through_cipher}
 use Rattle.xts.specs.Units.{tweak_bytes, first_tweak}
-use borrow.Author.Rules.{rules}
 use Rattle.xts.proofs.keys.first_tweak.Goals as goal
 
 pub returns : goal.returns
