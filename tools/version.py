@@ -19,7 +19,7 @@ PAGES = 'man/'
 MARKERS = ('/* version: written by tools/version.py from rust/Cargo.toml */\n', '/* end of version */\n')
 
 # The header is written here, the lock file by cargo, and the changelog tells which version brought what.
-WRITTEN = {SOURCE, HEADER, 'rust/Cargo.lock', 'docs/CHANGELOG.md'}
+WRITTEN = {SOURCE, HEADER, 'rust/Cargo.lock', 'docs/CHANGELOG.md', 'docs/unfinished.patch'}
 PASSED_OVER = {'.git', 'target', 'out', '__pycache__'}
 
 
