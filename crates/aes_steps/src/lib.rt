@@ -7,7 +7,7 @@
 ghost use Rattle.std.specs.Prelude.{◌≡◌};
 ghost use Rattle.aes_tables.specs.SBox.{ByTables};
 ghost use Rattle.aes_steps.specs.Blocks.{sub_bytes, inv_sub_bytes, shift_rows, inv_shift_rows, add_round_key};
-ghost use Rattle.aes_steps.specs.Rounds.{round as roundOf, inv_round as invRoundOf};
+ghost use Rattle.aes_steps.specs.Rounds.{round as round_of, inv_round as inv_round_of};
 
 mod steps;
 
@@ -24,7 +24,7 @@ pub fn add_round_key(key: [[u8; 4]; 4], s: [[u8; 4]; 4]) -> [[u8; 4]; 4]
 }
 
 pub fn round(tables: &[[u8; 256]; 2], key: [[u8; 4]; 4], s: [[u8; 4]; 4]) -> [[u8; 4]; 4]
-    ensures { ByTables tables.now (result ≡ roundOf key s) }
+    ensures { ByTables tables.now (result ≡ round_of key s) }
 {
     let moved = steps::shift_rows(steps::sub_bytes(tables, s));
     add_round_key(key, aes_mixing::mix_columns(moved))
@@ -38,7 +38,7 @@ pub fn last_round(tables: &[[u8; 256]; 2], key: [[u8; 4]; 4], s: [[u8; 4]; 4]) -
 }
 
 pub fn inv_round(tables: &[[u8; 256]; 2], key: [[u8; 4]; 4], s: [[u8; 4]; 4]) -> [[u8; 4]; 4]
-    ensures { ByTables tables.now (result ≡ invRoundOf key s) }
+    ensures { ByTables tables.now (result ≡ inv_round_of key s) }
 {
     aes_mixing::inv_mix_columns(last_inv_round(tables, key, s))
 }

@@ -65,7 +65,7 @@ fn after_bytes(tables: &[u32; 1024], start: u32, bytes: &[u8]) -> u32
 // The register after whole words of four bytes.
 fn after_words(tables: &[u32; 1024], start: u32, bytes: &[u8]) -> u32
     requires tables_value { tables.now ≡ crc_tables }
-    requires bytes_len { length bytes.now % 4 ≡ 0 }
+    requires whole_words { length bytes.now % 4 ≡ 0 }
     ensures { result ≡ crc_from start bytes.now }
 {
     let mut crc = start;
@@ -104,7 +104,7 @@ fn word_at(bytes: &[u8], at: usize) -> u32
 
 fn wide(byte: u8) -> u32
     ensures value { result ≡ byte }
-    ensures upper_bound { result < 256 }
+    ensures is_byte { result < 256 }
 {
     byte as u32
 }

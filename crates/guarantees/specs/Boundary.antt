@@ -1,5 +1,5 @@
 -- The boundary for C and Rust: what each number returned tells, in which order a layout's and a view's numbers stand, and what is stored.
--- The definitions are those that the contracts of `ondristela`, and of the calls below it, cite. Assumes nothing.
+-- The definitions are those that the contracts of `ondristela` and `ondristela_c`, and of the calls below them, cite. Assumes nothing.
 use Rattle.std.specs.Prelude.{ℕ, ◌+◌, ◌*◌, ◌≤◌}
 use mathlib.Core.{Path.◌≡◌, Logic.◌↔◌, Bool.{not, cond}, List.{List, [], ◌∷◌, ◌++◌}}
 use lib.{Dec.eqb, ListN.{length, take}}

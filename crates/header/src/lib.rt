@@ -76,7 +76,7 @@ fn read_fields(candidate: &[u8]) -> Fields
 
 // Judges a header by the first rule that it breaks.
 fn first_broken(candidate: &[u8], magic: u64, kind: u64, host_size: u64, index: u64) -> Opened
-    requires candidate_value { is_header candidate.now ≡ true }
+    requires header_found { is_header candidate.now ≡ true }
     requires magic_value { magic ≡ magic_of candidate.now }
     ensures { result ≡ judgement kind host_size index candidate.now }
 {

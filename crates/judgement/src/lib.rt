@@ -164,7 +164,7 @@ fn place(answer: Answer, layout: Layout, first: u64) -> Placement
 
 // The first byte of an extent in the host.
 fn extent_start(layout: Layout, first: u64) -> u64
-    requires layout_value { sound layout ≡ true }
+    requires layout_sound { sound layout ≡ true }
     requires first_bound { first ≤ sectors layout }
     ensures { result ≡ extent_start layout first }
 {

@@ -46,8 +46,8 @@ fn key_words(key: [u8; 32]) -> [[u8; 4]; 60]
 
 // What is made of the word before word i.
 fn turn(tables: &[[u8; 256]; 2], i: usize, w: [u8; 4]) -> [u8; 4]
-    requires le_i { 8 ≤ i }
-    requires i_bound { i < 64 }
+    requires from_eight { 8 ≤ i }
+    requires below_64 { i < 64 }
     ensures { ByTables tables.now (result ≡ turned i w) }
 {
     if i % 8 == 0 {
@@ -70,8 +70,8 @@ fn rot_word(w: [u8; 4]) -> [u8; 4]
 }
 
 fn round_constant(j: usize) -> [u8; 4]
-    requires le_j { 1 ≤ j }
-    requires j_bound { j < 8 }
+    requires from_one { 1 ≤ j }
+    requires below_8 { j < 8 }
     ensures { result ≡ round_constant j }
 {
     [POWERS[j - 1], 0, 0, 0]

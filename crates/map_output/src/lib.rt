@@ -120,7 +120,7 @@ fn put_either(
     requires label_len_bound { length label.now ≤ 8 }
     requires one_len_bound { length one.now ≤ 20 }
     requires other_len_bound { length other.now ≤ 20 }
-    requires line_room_in_bounds { at + line_room ≤ length out.old }
+    requires line_fits { at + line_room ≤ length out.old }
     ensures { Written line_room (either_line label.now test one.now other.now) out.old at out.new result }
 {
     if test {
@@ -133,7 +133,7 @@ fn put_either(
 // A line whose value is a number.
 fn put_number(out: &mut [u8], at: usize, label: &[u8], number: u64) -> usize
     requires label_len_bound { length label.now ≤ 8 }
-    requires line_room_in_bounds { at + line_room ≤ length out.old }
+    requires line_fits { at + line_room ≤ length out.old }
     ensures { Written line_room (number_line label.now number) out.old at out.new result }
 {
     let mut digits = [0u8; DIGITS];
@@ -168,7 +168,7 @@ fn digit(number: u64) -> u8
 fn put_line(out: &mut [u8], at: usize, label: &[u8], value: &[u8]) -> usize
     requires label_len_bound { length label.now ≤ 8 }
     requires value_len_bound { length value.now ≤ 20 }
-    requires line_room_in_bounds { at + line_room ≤ length out.old }
+    requires line_fits { at + line_room ≤ length out.old }
     ensures { Written line_room (text_line label.now value.now) out.old at out.new result }
 {
     let space = put(out, at, label);

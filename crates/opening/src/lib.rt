@@ -68,9 +68,9 @@ fn larger(a: u8, b: u8) -> u8
 }
 
 fn search_in_order(candidates: &[u8], codes: &[u8], host_size: u64) -> Opened
-    requires codes_len_bound { length codes.now ≤ 64 }
-    requires candidates_len { length candidates.now ≡ length codes.now * 512 }
-    requires codes_value { codes_rule codes.now ≡ true }
+    requires of_one_call { length codes.now ≤ 64 }
+    requires whole_candidates { length candidates.now ≡ length codes.now * 512 }
+    requires codes_kept { codes_rule codes.now ≡ true }
     ensures { result ≡ searched candidates.now host_size codes.now }
 {
     let table = locations::LOCATIONS;

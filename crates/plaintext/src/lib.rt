@@ -152,8 +152,8 @@ fn write_sectors(
 
 // The image's sectors from an offset on, as many as the buffer has room for, deciphered.
 fn decipher_from(key: [u8; 64], image: &[u8], start: u64, buffer: &mut [u8])
-    requires buffer_in_bounds { start + length buffer.old ≤ length image.now }
-    requires buffer_len { length buffer.old % 512 ≡ 0 }
+    requires inside_image { start + length buffer.old ≤ length image.now }
+    requires whole_sectors { length buffer.old % 512 ≡ 0 }
     ensures { buffer.new ≡ in_units (deciphered key) (length buffer.old / 512) (start / 512) (take (length buffer.old) (drop start image.now)) }
 {
     let at = start as usize;
@@ -169,8 +169,8 @@ fn decipher_from(key: [u8; 64], image: &[u8], start: u64, buffer: &mut [u8])
 
 // The buffer's sectors, enciphered, over the image's from an offset on.
 fn encipher_into(key: [u8; 64], image: &mut [u8], start: u64, buffer: &[u8])
-    requires buffer_in_bounds { start + length buffer.now ≤ length image.old }
-    requires buffer_len { length buffer.now % 512 ≡ 0 }
+    requires inside_image { start + length buffer.now ≤ length image.old }
+    requires whole_sectors { length buffer.now % 512 ≡ 0 }
     ensures { image.new ≡ overlay start (in_units (enciphered key) (length buffer.now / 512) (start / 512) buffer.now) image.old }
 {
     let at = start as usize;

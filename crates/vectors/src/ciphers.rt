@@ -22,9 +22,6 @@ const UNIT: usize = 11;
 
 const ROUND_KEYS: usize = 15;
 
-// Half of the bits of a number.
-const HALF: u64 = 4_294_967_296;
-
 pub fn run_key(streams: &mut Streams, body: &[u8]) -> io::Result<()> {
     let tables = aes_tables::cipher_tables();
     print_round_keys(streams, key_expansion::expand(&tables, aes_key(body)))
@@ -67,22 +64,19 @@ fn aes_key(body: &[u8]) -> [u8; 32] {
     key
 }
 
-// A block's columns, two in each of its two numbers.
 fn plain_block(body: &[u8]) -> [[u8; 4]; 4] {
-    let left = input::number(body, BLOCK);
-    let right = input::number(body, BLOCK + 1);
-    [
-        column(left / HALF),
-        column(left % HALF),
-        column(right / HALF),
-        column(right % HALF),
-    ]
+    let mut bytes = [0u8; 16];
+    input::byte_list(input::after(body, BLOCK), &mut bytes);
+    columns(bytes)
 }
 
-fn column(number: u64) -> [u8; 4] {
-    let mut column = [0u8; 4];
-    number_writing::write_big_endian(number, &mut column);
-    column
+fn columns(bytes: [u8; 16]) -> [[u8; 4]; 4] {
+    [
+        [bytes[0], bytes[1], bytes[2], bytes[3]],
+        [bytes[4], bytes[5], bytes[6], bytes[7]],
+        [bytes[8], bytes[9], bytes[10], bytes[11]],
+        [bytes[12], bytes[13], bytes[14], bytes[15]],
+    ]
 }
 
 fn print_round_keys(streams: &mut Streams, keys: [[[u8; 4]; 4]; ROUND_KEYS]) -> io::Result<()> {

@@ -5,7 +5,7 @@ ghost use Rattle.aes_words.specs.Words.{in_fours};
 ghost use Rattle.aes_steps.specs.Blocks.{bytes_of};
 ghost use Rattle.aes_tables.specs.SBox.{cipher_tables};
 ghost use Rattle.aes.specs.Cipher.{through_cipher};
-ghost use Rattle.xts.specs.Units.{under_tweak as underTweakOf};
+ghost use Rattle.xts.specs.Units.{under_tweak as under_tweak_of};
 
 use aes::Direction;
 
@@ -18,7 +18,7 @@ pub fn under_tweak(
     block: [[u8; 4]; 4],
 ) -> [[u8; 4]; 4]
     requires { tables.now ≡ cipher_tables }
-    ensures { result ≡ underTweakOf (through_cipher direction keys) tweak block }
+    ensures { result ≡ under_tweak_of (through_cipher direction keys) tweak block }
 {
     let masked = aes_steps::add_round_key(tweak, block);
     aes_steps::add_round_key(tweak, aes::convert_block(tables, keys, direction, masked))

@@ -44,9 +44,9 @@ pub fn convert_run(direction: Direction, key: [u8; 64], number: u64, from: &[u8]
 }
 
 fn convert_units(direction: Direction, key: [u8; 64], number: u64, from: &[u8], into: &mut [u8])
-    requires into_len { length into.old ≡ length from.now }
-    requires from_len { length from.now % 512 ≡ 0 }
-    requires from_bound { number + length from.now / 512 < 2 ^ 64 }
+    requires same_length { length into.old ≡ length from.now }
+    requires whole_units { length from.now % 512 ≡ 0 }
+    requires numbers_fit { number + length from.now / 512 < 2 ^ 64 }
     ensures { into.new ≡ in_units (converted direction key) (length from.now / 512) number from.now }
 {
     let tables = aes_tables::cipher_tables();

@@ -14,8 +14,8 @@ returns c =
     rw (c.wide.ensures.value, c.wide-2.ensures.value, c.wide-3.ensures.value, c.wide-4.ensures.value) (record {
       value = word_of bytes at c.requires;
       bytes =
-          bytes_of bytes at c.requires (small c.wide.ensures.value c.wide.ensures.upper_bound)
-          (small c.wide-2.ensures.value c.wide-2.ensures.upper_bound)
-          (small c.wide-3.ensures.value c.wide-3.ensures.upper_bound)
-          (small c.wide-4.ensures.value c.wide-4.ensures.upper_bound);
+          bytes_of bytes at c.requires (small c.wide.ensures.value c.wide.ensures.is_byte)
+          (small c.wide-2.ensures.value c.wide-2.ensures.is_byte)
+          (small c.wide-3.ensures.value c.wide-3.ensures.is_byte)
+          (small c.wide-4.ensures.value c.wide-4.ensures.is_byte);
     })

@@ -1,5 +1,4 @@
 -- `header::checksums_match` meets its contract: the keys' checksum first, then the fields'.
--- the two checksums of the candidate
 use mathlib.Core.{Path.{◌≡◌, ap₂, ◌∙◌}, List.{List, [], ◌∷◌}}
 use Prim.Native.Nat.{ℕ}
 use borrow.Author.Tests.{eq-eqb, ne_eqb}
@@ -9,6 +8,7 @@ use Rattle.header_format.specs.Format.{keys_field, checked_field}
 use Rattle.header.specs.Header.{checksums_match}
 use Rattle.header.proofs.checksums_match.Goals as goal
 
+-- the two checksums of the candidate
 module _ (h : List ℕ) {keys checked sums : List ℕ} (k : keys ≡ field_part keys_field h) (f : checked ≡ field_part checked_field h) where
   summed : sums ≡ crc32 keys ∷ crc32 checked ∷ [] → sums ≡ crc32 (field_part keys_field h) ∷ crc32 (field_part checked_field h) ∷ []
   summed e = e ∙ ap₂ (λ (a b : List ℕ). crc32 a ∷ crc32 b ∷ []) k f

@@ -28,41 +28,41 @@ judged kind host_size index h header m e = rw (m, e) (line_kept _ _ header refl)
 pub returns-then-not-keeps_version : goal.returns-then-not-keeps_version
 unfolding flags_rule
 returns-then-not-keeps_version c =
-    rw (judged c.args.kind c.args.host_size c.args.index c.args.candidate.now c.requires.candidate_value c.requires.magic_value c.read_fields-fields.ensures)
+    rw (judged c.args.kind c.args.host_size c.args.index c.args.candidate.now c.requires.header_found c.requires.magic_value c.read_fields-fields.ensures)
     (simp (← c.keeps_version.ensures, c.if-not-keeps_version.true))
 
 pub returns-then-not-keeps_reserved : goal.returns-then-not-keeps_reserved
 unfolding flags_rule
 returns-then-not-keeps_reserved c =
-    rw (judged c.args.kind c.args.host_size c.args.index c.args.candidate.now c.requires.candidate_value c.requires.magic_value c.read_fields-fields.ensures)
+    rw (judged c.args.kind c.args.host_size c.args.index c.args.candidate.now c.requires.header_found c.requires.magic_value c.read_fields-fields.ensures)
     (simp (← c.keeps_version.ensures, c.if-not-keeps_version.false, ← c.keeps_reserved.ensures, c.if-not-keeps_reserved.true))
 
 pub returns-then-fields-ne0 : goal.returns-then-fields-ne0
 unfolding flags_rule
 returns-then-fields-ne0 c =
-    rw (judged c.args.kind c.args.host_size c.args.index c.args.candidate.now c.requires.candidate_value c.requires.magic_value c.read_fields-fields.ensures)
+    rw (judged c.args.kind c.args.host_size c.args.index c.args.candidate.now c.requires.header_found c.requires.magic_value c.read_fields-fields.ensures)
     (simp (← c.keeps_version.ensures, c.if-not-keeps_version.false, ← c.keeps_reserved.ensures, c.if-not-keeps_reserved.false, ne_eqb _ _ c.if-fields-ne0.true))
 
 pub returns-then-not-is_sector_size : goal.returns-then-not-is_sector_size
 unfolding flags_rule
 returns-then-not-is_sector_size c =
-    rw (judged c.args.kind c.args.host_size c.args.index c.args.candidate.now c.requires.candidate_value c.requires.magic_value c.read_fields-fields.ensures)
+    rw (judged c.args.kind c.args.host_size c.args.index c.args.candidate.now c.requires.header_found c.requires.magic_value c.read_fields-fields.ensures)
     (simp (← c.keeps_version.ensures, c.if-not-keeps_version.false, ← c.keeps_reserved.ensures, c.if-not-keeps_reserved.false, eq-eqb _ _ c.if-fields-ne0.false, ← c.is_sector_size.ensures, c.if-not-is_sector_size.true))
 
 pub returns-then-not-keeps_hidden_size : goal.returns-then-not-keeps_hidden_size
 unfolding flags_rule
 returns-then-not-keeps_hidden_size c =
-    rw (judged c.args.kind c.args.host_size c.args.index c.args.candidate.now c.requires.candidate_value c.requires.magic_value c.read_fields-fields.ensures)
+    rw (judged c.args.kind c.args.host_size c.args.index c.args.candidate.now c.requires.header_found c.requires.magic_value c.read_fields-fields.ensures)
     (simp (← c.keeps_version.ensures, c.if-not-keeps_version.false, ← c.keeps_reserved.ensures, c.if-not-keeps_reserved.false, eq-eqb _ _ c.if-fields-ne0.false, ← c.is_sector_size.ensures, c.if-not-is_sector_size.false, ← c.keeps_hidden_size.ensures, c.if-not-keeps_hidden_size.true))
 
 pub returns-then-not-keeps_area : goal.returns-then-not-keeps_area
 unfolding flags_rule
 returns-then-not-keeps_area c =
-    rw (judged c.args.kind c.args.host_size c.args.index c.args.candidate.now c.requires.candidate_value c.requires.magic_value c.read_fields-fields.ensures)
+    rw (judged c.args.kind c.args.host_size c.args.index c.args.candidate.now c.requires.header_found c.requires.magic_value c.read_fields-fields.ensures)
     (simp (← c.keeps_version.ensures, c.if-not-keeps_version.false, ← c.keeps_reserved.ensures, c.if-not-keeps_reserved.false, eq-eqb _ _ c.if-fields-ne0.false, ← c.is_sector_size.ensures, c.if-not-is_sector_size.false, ← c.keeps_hidden_size.ensures, c.if-not-keeps_hidden_size.false, ← c.accepted_layout-layout.ensures, ← c.keeps_area.ensures, c.if-not-keeps_area.true))
 
 pub returns : goal.returns
 unfolding flags_rule
 returns c =
-    rw (judged c.args.kind c.args.host_size c.args.index c.args.candidate.now c.requires.candidate_value c.requires.magic_value c.read_fields-fields.ensures)
+    rw (judged c.args.kind c.args.host_size c.args.index c.args.candidate.now c.requires.header_found c.requires.magic_value c.read_fields-fields.ensures)
     (simp (← c.keeps_version.ensures, c.if-not-keeps_version.false, ← c.keeps_reserved.ensures, c.if-not-keeps_reserved.false, eq-eqb _ _ c.if-fields-ne0.false, ← c.is_sector_size.ensures, c.if-not-is_sector_size.false, ← c.keeps_hidden_size.ensures, c.if-not-keeps_hidden_size.false, ← c.accepted_layout-layout.ensures, ← c.keeps_area.ensures, c.if-not-keeps_area.false))

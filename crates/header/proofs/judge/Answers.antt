@@ -35,7 +35,7 @@ unfolding judge
 returns-then-not-checksums_match c = sym (line_broken _ _ (by-checksums _ c.if-candidate-ne-SIZE.false c.magic_of-magic.ensures c.if-magic-gt-TRUE.false c.checksums_match.ensures ∙ c.if-not-checksums_match.true))
 
 pub first_broken-requires : goal.first_broken-requires
-first_broken-requires c = record { candidate_value = by-checksums _ c.if-candidate-ne-SIZE.false c.magic_of-magic.ensures c.if-magic-gt-TRUE.false c.checksums_match.ensures ∙ c.if-not-checksums_match.false; magic_value = c.magic_of-magic.ensures }
+first_broken-requires c = record { header_found = by-checksums _ c.if-candidate-ne-SIZE.false c.magic_of-magic.ensures c.if-magic-gt-TRUE.false c.checksums_match.ensures ∙ c.if-not-checksums_match.false; magic_value = c.magic_of-magic.ensures }
 
 pub returns : goal.returns
 returns c = c.first_broken.ensures

@@ -8,12 +8,12 @@ use Rattle.judgement.proofs.extent_start.Goals as goal
 
 pub overflow_mul-result : goal.overflow_mul-result
 unfolding sectors
-overflow_mul-result c = record { fits = omega (arith, c.requires.first_bound, sound_end_le c.args.layout c.requires.layout_value) }
+overflow_mul-result c = record { fits = omega (arith, c.requires.first_bound, sound_end_le c.args.layout c.requires.layout_sound) }
 
 pub overflow_add-result : goal.overflow_add-result
 unfolding sectors
 overflow_add-result c =
-    record { fits = omega (arith, c.requires.first_bound, sound_end_le c.args.layout c.requires.layout_value) }
+    record { fits = omega (arith, c.requires.first_bound, sound_end_le c.args.layout c.requires.layout_sound) }
 
 pub returns : goal.returns
 unfolding extent_start

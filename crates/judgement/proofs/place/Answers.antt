@@ -6,7 +6,7 @@ use Rattle.judgement.proofs.place.Goals as goal
 pub extent_start-requires : goal.extent_start-requires
 extent_start-requires c =
     let given = c.requires c.in-Accepted.is in
-    record { layout_value = given.0; first_bound = given.1 }
+    record { layout_sound = given.0; first_bound = given.1 }
 
 pub returns-in-Accepted : goal.returns-in-Accepted
 unfolding placed_by

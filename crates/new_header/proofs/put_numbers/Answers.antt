@@ -1,5 +1,4 @@
 -- `new_header::put_numbers` meets its contract, a number after the other.
--- one number more, laid over what the numbers before it have left
 use Prim.Native.Nat.{ℕ}
 use mathlib.Core.{Path.{◌≡◌, refl, ap, ◌∙◌}, List.List}
 use Rattle.fields.specs.{Bytes.overlay, declared.Field.Field}
@@ -9,6 +8,7 @@ use Rattle.header_format.specs.Format.{encrypted_size_field, flags_field, sector
 use Rattle.new_header.specs.NewHeader.{number_contents, laid}
 use Rattle.new_header.proofs.put_numbers.Goals as goal
 
+-- one number more, laid over what the numbers before it have left
 over : {bytes before after : List ℕ} (field : Field) (number : ℕ) → after ≡ overlay field.offset (big_endian_bytes field.size number) before
     → before ≡ bytes → after ≡ overlay field.offset (big_endian_bytes field.size number) bytes
 over field number last others = last ∙ ap (overlay field.offset (big_endian_bytes field.size number)) others

@@ -1,5 +1,4 @@
 -- `opening::first_refusal` meets its contract.
--- 4 behind any refusal changes nothing
 use Prim.Native.Nat.{ℕ}
 use mathlib.Core.{Path.{◌≡◌, refl, sym, ap, ◌∙◌}, Bool.{Bool, true, false, cond}}
 use lib.Dec.{eqb}
@@ -8,6 +7,7 @@ use Rattle.layout.specs.declared.Opened.TheVariants.{Refused}
 use Rattle.opening.specs.Opening.{further}
 use Rattle.opening.proofs.first_refusal.Goals as goal
 
+-- 4 behind any refusal changes nothing
 none-later : (first later : ℕ) → later ≡ 4 → first ≡ cond (eqb first 4) later first
 none-later first later e = go (eqb first 4) refl
   where

@@ -22,9 +22,9 @@ search_in_order-requires c =
     let args = c.args in
     let lengths : lengths_rule args.candidates.now args.codes.now ≡ true = sym c.lengths_agree.ensures ∙ c.if-not-lengths_agree.false in
     record {
-      codes_len_bound = lengths_most args.candidates.now args.codes.now lengths;
-      candidates_len = lengths_whole args.candidates.now args.codes.now lengths;
-      codes_value = sym c.codes_known.ensures ∙ c.if-not-codes_known.false;
+      of_one_call = lengths_most args.candidates.now args.codes.now lengths;
+      whole_candidates = lengths_whole args.candidates.now args.codes.now lengths;
+      codes_kept = sym c.codes_known.ensures ∙ c.if-not-codes_known.false;
     }
 
 pub returns : goal.returns

@@ -24,13 +24,13 @@ unfolding searched judgements
 loop-index-init c = search rules
 
 pub overflow_cast-code : goal.overflow_cast-code
-overflow_cast-code c = record { fits = omega (arith, codes_rule_at c.args.codes.now c.loop-index.index (omega arith) c.requires.codes_value) }
+overflow_cast-code c = record { fits = omega (arith, codes_rule_at c.args.codes.now c.loop-index.index (omega arith) c.requires.codes_kept) }
 
 pub offset_bounds-table-code : goal.offset_bounds-table-code
-offset_bounds-table-code c = record { fits = omega (arith, codes_rule_at c.args.codes.now c.loop-index.index (omega arith) c.requires.codes_value) }
+offset_bounds-table-code c = record { fits = omega (arith, codes_rule_at c.args.codes.now c.loop-index.index (omega arith) c.requires.codes_kept) }
 
 pub bounds-table-code : goal.bounds-table-code
-bounds-table-code c = omega (arith, codes_rule_at c.args.codes.now c.loop-index.index (omega arith) c.requires.codes_value)
+bounds-table-code c = omega (arith, codes_rule_at c.args.codes.now c.loop-index.index (omega arith) c.requires.codes_kept)
 
 pub loop-index-preserved : goal.loop-index-preserved
 unfolding candidate_at location_of locations

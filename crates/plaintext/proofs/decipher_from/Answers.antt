@@ -7,4 +7,4 @@ use Rattle.plaintext.proofs.decipher_from.Goals as goal
 pub returns : goal.returns
 returns c =
     c.convert_run.ensures
-    ∙ deciphered_out c.args.key c.args.image.now c.args.buffer.now c.args.start c.requires.buffer_in_bounds c.requires.buffer_len (omega arith)
+    ∙ deciphered_out c.args.key c.args.image.now c.args.buffer.now c.args.start c.requires.inside_image c.requires.whole_sectors (omega arith)

@@ -14,4 +14,4 @@ returns c =
     let buffer : List ℕ = c.args.buffer.now in
     let at = c.args.start in
     ap (put_mid at (at + length buffer - at) image) c.convert_run.ensures
-    ∙ enciphered_in c.args.key image buffer at c.requires.buffer_in_bounds c.requires.buffer_len (omega arith)
+    ∙ enciphered_in c.args.key image buffer at c.requires.inside_image c.requires.whole_sectors (omega arith)

@@ -9,7 +9,7 @@ use Rattle.plaintext.proofs.write_sectors.Goals as goal
 pub encipher_into-requires : goal.encipher_into-requires
 encipher_into-requires c = let given = placed_accepted _ _ c.write_extent-placement.ensures c.in-Offset.is in
     let passed = write_passed _ _ _ _ _ _ _ refl given.0 in
-    record { buffer_in_bounds = omega (arith, given.1, passed_ends _ _ _ _ _ _ passed); buffer_len = omega (arith, passed.buffer_whole) }
+    record { inside_image = omega (arith, given.1, passed_ends _ _ _ _ _ _ passed); whole_sectors = omega (arith, passed.buffer_whole) }
 
 pub returns-in-Offset : goal.returns-in-Offset
 returns-in-Offset c =

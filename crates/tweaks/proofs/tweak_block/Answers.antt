@@ -1,5 +1,4 @@
 -- `tweaks::tweak_block` meets its contract: sixteen little-endian bytes of a number below 2^64 are eight, and zeros.
--- a tweak, from its parts
 use Prim.Native.Nat.{ℕ, ◌^◌, ◌<◌}
 use mathlib.Core.{List.List, Path.{ap, sym, ◌∙◌}}
 use native.Mathlib.Omega.{arith}
@@ -8,6 +7,7 @@ use Rattle.tweaks.specs.{declared.Tweak.Tweak, Tweaks.{tweak_of, block_of}}
 use Rattle.numbers.proofs.WrittenLaws.{little_endian_bytes_pad}
 use Rattle.tweaks.proofs.tweak_block.Goals as goal
 
+-- a tweak, from its parts
 abbrev tweak : Numbered → List ℕ → Tweak
 tweak number block = record { number = number; block = block }
 
