@@ -135,6 +135,14 @@ def function_problems(page, files):
             yield f'a public function of which it should say: {sentence}'
 
 
+def clause_problems(files):
+    """What the check gets wrong of a function one of whose clauses has the name of a definition, and does not cite it."""
+    page = '| call | answer equals | edits |\n|---|---|---|\n| `layout::unheard` | `judge` | |\n'
+    found = all_problems(page, read_repository(with_function(files, '    ensures judge { Unit }\n')))
+    if not any('`judge` is not in the contract' in problem for _, problem in found):
+        yield 'a definition of which a contract has no more than a clause of its name'
+
+
 def wrong_forwards(text):
     """Sources of the boundary's functions in which one does not just hand on, or has another contract."""
     call = re.search(r'\w+::\w*read\(view, image, first, count, buffer, sector\)', text)[0]
@@ -188,6 +196,7 @@ def claims_unnoticed(page, files):
         if not any(all_problems(text, repository)):
             yield name
     yield from function_problems(page, files)
+    yield from clause_problems(files)
     yield from forward_problems(page, files)
     yield from record_problems(read_repository({**files, CLAIMS: RECORD}))
 

@@ -63,8 +63,8 @@ def source_structs(text):
 
 
 def cited(contract, aliases):
-    """The names in the `ensures` of a contract, as the specs have them."""
-    _, _, promises = contract.partition('ensures')
+    """The names in the `ensures` of a contract, as the specs have them. The name of a clause cites nothing."""
+    _, _, promises = re.sub(r'\b(requires|ensures) \w+(?= \{)', r'\1', contract).partition('ensures')
     return {aliases.get(name, name) for name in re.findall(r'[^\s(){}\[\]«»⌜⌝.,;]+', promises)}
 
 
