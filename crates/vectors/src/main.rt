@@ -2,7 +2,7 @@
 // that they ask for, with the texts that they have for them. Assumes nothing.
 #![tactic(auto)]
 
-mod access;
+mod accesses;
 mod checks;
 mod ciphers;
 mod extents;
@@ -124,6 +124,6 @@ fn run(
         BLOCK => ciphers::run_block(streams, body),
         PUBLISHED_UNIT => ciphers::run_unit(streams, body),
         UNIT => ciphers::run_unit(streams, body),
-        _ => access::run(streams, image, view, body),
+        _ => accesses::run(streams, image, view, body),
     }
 }
