@@ -1,3 +1,3 @@
 pub mod AnswerLaws
 pub mod KeptLaws
-mod LockLaws
+pub mod LockLaws

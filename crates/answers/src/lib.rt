@@ -69,6 +69,7 @@ pub fn written_refusal(written: Written) -> u8
 }
 
 // A lock after a write that returned this number: 18 closes it.
+#[tactic(auto, using(crate::proofs::LockLaws::lock_closed, crate::proofs::LockLaws::lock_left_alone))]
 pub fn locked_after(locked: bool, number: u8) -> bool
     ensures { result ≡ locked_after locked number }
 {

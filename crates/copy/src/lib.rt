@@ -9,6 +9,7 @@ ghost use Rattle.copy.specs.Copy.{copied};
 const CHUNK_SIZE: usize = 65_536;
 
 // Lays all of from over the bytes of to from an offset on. Does nothing where they would reach past its end.
+#[tactic(auto, using(crate::proofs::CopyLaws::copied_none))]
 pub fn lay(from: &[u8], to: &mut [u8], at: usize)
     ensures { to.new ≡ copied at from.now to.old }
 {

@@ -45,6 +45,7 @@ fn key_words(key: [u8; 32]) -> [[u8; 4]; 60]
 }
 
 // What is made of the word before word i.
+#[tactic(auto, using(crate::proofs::ExpansionLaws::turned_half, crate::proofs::ExpansionLaws::turned_other))]
 fn turn(tables: &[[u8; 256]; 2], i: usize, w: [u8; 4]) -> [u8; 4]
     requires from_eight { 8 ≤ i }
     requires below_64 { i < 64 }

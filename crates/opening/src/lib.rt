@@ -31,6 +31,7 @@ pub fn open(candidates: &[u8], codes: &[u8], host_size: u64) -> Opened
     search_in_order(candidates, codes, host_size)
 }
 
+#[tactic(auto, unfolding(crate::specs::Opening::lengths_rule))]
 fn lengths_agree(candidates: &[u8], codes: &[u8]) -> bool
     ensures { result ≡ lengths_rule candidates.now codes.now }
 {

@@ -8,20 +8,10 @@ use Rattle.fields.proofs.OverlayLaws.{part_size, part_laid}
 use Rattle.copy.proofs.CopyLaws.{copied_fits, copied_none}
 use Rattle.copy.proofs.lay.Goals as goal
 
-pub returns-then-to-from : goal.returns-then-to-from
-returns-then-to-from c =
-    let args = c.args in
-    sym (copied_none args.at args.from.now args.to.now (omega (arith, c.if-to-from.true)))
-
-pub returns-then-to-from-2 : goal.returns-then-to-from-2
-returns-then-to-from-2 c =
-    let args = c.args in
-    sym (copied_none args.at args.from.now args.to.now (omega (arith, c.if-to-from.false, c.if-to-from-2.true)))
-
 pub copy_all-requires : goal.copy_all-requires
 copy_all-requires c =
     let args = c.args in
-    part_size args.at (length args.from.now) args.to.now (omega (arith, c.if-to-from.false, c.if-to-from-2.false))
+    part_size args.at (length args.from.now) args.to.now (omega arith)
 
 pub returns : goal.returns
 returns c =
@@ -31,4 +21,4 @@ returns c =
     let at = args.at in
     ap (put_mid at (at + length from - at) to) c.copy_all.ensures
     ∙ part_laid at (length from) from to refl
-    ∙ sym (copied_fits at from to (omega (arith, c.if-to-from.false, c.if-to-from-2.false)))
+    ∙ sym (copied_fits at from to (omega arith))
