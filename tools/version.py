@@ -18,8 +18,9 @@ HEADER = 'include/ondristela.h'
 PAGES = 'man/'
 MARKERS = ('/* version: written by tools/version.py from rust/Cargo.toml */\n', '/* end of version */\n')
 
-# The header is written here, the lock file by cargo, and the changelog tells which version brought what.
-WRITTEN = {SOURCE, HEADER, 'rust/Cargo.lock', 'docs/CHANGELOG.md', 'docs/unfinished.patch'}
+# The header is written here, the lock file by cargo, the changelog tells which version brought what, and a patch that is
+# set aside changes some of these.
+WRITTEN = {SOURCE, HEADER, 'rust/Cargo.lock', 'docs/CHANGELOG.md', 'docs/set-aside.patch'}
 PASSED_OVER = {'.git', 'target', 'out', '__pycache__'}
 
 
