@@ -8,7 +8,7 @@ from pathlib import Path
 
 sys.dont_write_bytecode = True
 sys.path.insert(0, str(Path(__file__).resolve().parent.parent / 'tools'))
-from refused import call_at, open_pairs, problems  # noqa: E402
+from refused import call_at, is_verdict, open_pairs, problems  # noqa: E402
 
 PAGE = '''\
 | call | answer equals | edits |
@@ -71,6 +71,8 @@ PLACES = {
     'proofs/Laws.antt:3': None, 'specs/Part.antt:2': None, '': None,
 }
 
+UNBUILT = 'logic=proved functions=2\nrt: the library below did not build, so nothing above it was checked\n'
+
 
 def main():
     wanted, untried = open_pairs(PAGE, LOG, SOURCES.get)
@@ -82,6 +84,8 @@ def main():
     for place, call in PLACES.items():
         if call_at('low/edit', place, SOURCES.get) != call:
             sys.exit(f'{place}: it takes it for {call_at("low/edit", place, SOURCES.get)}')
+    if not is_verdict(PROVER['low/both_wrong'] + 'logic=not-proved\n') or is_verdict(UNBUILT) or is_verdict(''):
+        sys.exit('a check that did not come to the crate is taken for a verdict')
     print('refused.py reports a call that an edit leaves proved')
 
 

@@ -29,6 +29,8 @@ KEPT = 'target/refused'
 PARTS = ('src', 'specs', 'proofs')
 # What a check takes at most, in GB: so many are run side by side.
 MEMORY = 4
+# So often a check is begun that comes to no verdict.
+TRIES = 3
 
 
 def calls_and_edits(page):
@@ -71,6 +73,11 @@ def call_at(edit, place, read_source):
     if match := re.fullmatch(r'proofs/([\w/]+)/(?:Answers|Invariants|Proof)\.antt:\d+', place):
         return f'{crate}::{match[1].replace("/", "::")}'
     return None
+
+
+def is_verdict(said):
+    """Whether a check came to the edited crate: an edit is never in a library below it, so that these are always built."""
+    return re.search(r'^logic=', said, re.M) is not None and not re.search(r'^rt: the library \w+ did not build', said, re.M)
 
 
 def is_refused(call, said):
@@ -135,10 +142,13 @@ def tried(edit, root, toolchain):
         head = f'{digest(root, toolchain)}\n'
         if kept.exists() and kept.read_text().startswith(head):
             return kept.read_text()[len(head):]
-        said = subprocess.run(['rt', 'check', '--jobs', '1'], cwd=folder, stdin=subprocess.DEVNULL, stdout=subprocess.PIPE,
-                              stderr=subprocess.STDOUT, text=True, errors='replace').stdout
+        for _ in range(TRIES):
+            said = subprocess.run(['rt', 'check', '--jobs', '1'], cwd=folder, stdin=subprocess.DEVNULL,
+                                  stdout=subprocess.PIPE, stderr=subprocess.STDOUT, text=True, errors='replace').stdout
+            if is_verdict(said):
+                break
         # A check that comes to no verdict is tried again the next time.
-        if re.search(r'^logic=', said, re.M):
+        if is_verdict(said):
             kept.parent.mkdir(parents=True, exist_ok=True)
             kept.write_text(head + said)
         return said
