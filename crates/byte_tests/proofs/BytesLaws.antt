@@ -1,21 +1,20 @@
--- The tests of bytes one byte at a time, as a loop over an index goes through them.
+-- The tests of bytes: what they decide, and one byte at a time, as a loop over an index goes through them.
 -- Assumes nothing.
 use Prim.Native.Nat.{ℕ, suc, ◌+◌, ◌≤◌, ◌<◌}
 use native.Mathlib.Numerals.{add-one}
 use mathlib.Core.{Path.{◌≡◌, refl, sym, ap, ap₂}, Bool.{Bool, true, false, ◌&&◌, and-false, true≢false}, List.{List, [], ◌∷◌}}
 use lib.{Dec.eqb, ListN.{length, get_or, drop, replicate, drop_of_length-le}, Seq.drop-cons}
-use borrow.Author.Tests.{eqb-true}
+use borrow.Author.{Tests.{eqb-true}}
+use Rattle.std.specs.{Bool.{Decides}, List.{All}}
+use Rattle.std.proofs.lemmas.Bool.Decides.{Decides-by_and, Decides-eqb}
+use Rattle.std.proofs.lemmas.Slice.Eq.{IsBytesEq, compares_Decides}
 use Rattle.byte_tests.specs.Tests.{same_bytes, all_zero}
 
 -- ---- every byte is zero
 
-pub all_zero_drop : (xs : List ℕ) (i : ℕ) → i < length xs → all_zero (drop i xs) ≡ (eqb (get_or xs i 0) 0 && all_zero (drop (i + 1) xs))
+pub all_zero_decides : (xs : List ℕ) → Decides (all_zero xs) (All (λ b. b ≡ 0) xs)
 unfolding all_zero
-all_zero_drop xs i h = rw (add-one, drop-cons xs i 0)
-
-pub all_zero_end : (xs : List ℕ) (i : ℕ) → length xs ≤ i → all_zero (drop i xs) ≡ true
-unfolding all_zero
-all_zero_end xs i h = rw (drop_of_length-le xs h)
+all_zero_decides = Decides-by_and (λ b. eqb b 0) (λ b. b ≡ 0) all_zero (λ b. Decides-eqb b 0) refl (λ _ _. refl)
 
 pub all_zero_replicate : (xs : List ℕ) → all_zero xs ≡ true → xs ≡ replicate (length xs) 0
 unfolding all_zero
@@ -29,16 +28,13 @@ all_zero_replicate (x ∷ xs) h = go (eqb x 0) refl h (all_zero_replicate xs)
 
 -- ---- two lists have the same bytes
 
-pub same_bytes_true : (xs ys : List ℕ) → same_bytes xs ys ≡ true → xs ≡ ys
+-- the test goes head by head
+heads : IsBytesEq same_bytes
 unfolding same_bytes
-same_bytes_true [] [] h = refl
-same_bytes_true [] (y ∷ ys) h = absurd (true≢false (sym h))
-same_bytes_true (x ∷ xs) [] h = absurd (true≢false (sym h))
-same_bytes_true (x ∷ xs) (y ∷ ys) h = go (eqb x y) refl h (same_bytes_true xs ys)
-  where
-    go : (b : Bool) → eqb x y ≡ b → (b && same_bytes xs ys) ≡ true → (same_bytes xs ys ≡ true → xs ≡ ys) → x ∷ xs ≡ y ∷ ys
-    go true e k rest = ap₂ (λ (z : ℕ) (zs : List ℕ). z ∷ zs) (eqb-true x y e) (rest k)
-    go false e k rest = absurd (true≢false (sym k))
+heads = record { empty = refl; shorter = λ y ys. refl; longer = λ x xs. refl; heads = λ x y xs ys. refl }
+
+pub same_bytes_true : (xs ys : List ℕ) → same_bytes xs ys ≡ true → xs ≡ ys
+same_bytes_true xs ys = (compares_Decides same_bytes heads xs ys).0
 
 pub same_bytes_length : (xs ys : List ℕ) → (length xs ≡ length ys → ⊥) → same_bytes xs ys ≡ false
 unfolding same_bytes

@@ -1,4 +1,4 @@
--- The tables of CRC-32: what the private functions of `crc32` ask of the tables that they get. Assumes nothing.
+-- The tables of CRC-32: what the private function `crc_tables` of `crc32` hands out. Assumes nothing.
 use Rattle.std.specs.Prelude.{ℕ, zero, suc, List, [], ◌++◌, map}
 use Rattle.bits.specs.Bits.{entries}
 use Rattle.crc32.specs.Crc32.{bit_steps}

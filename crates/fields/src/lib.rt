@@ -2,7 +2,7 @@
 // Assumes nothing; no function has a `requires`.
 #![tactic(auto)]
 
-ghost use Rattle.std.specs.Prelude.{◌≡◌, min};
+ghost use Rattle.std.specs.Prelude.{◌≡◌};
 ghost use Rattle.fields.specs.Bytes.{field_part};
 
 // Where a field stands in its bytes.
@@ -16,13 +16,7 @@ pub struct Field {
 pub fn field_bytes(bytes: &[u8], place: Field) -> &[u8]
     ensures { result.now ≡ field_part place bytes.now }
 {
-    let start = smaller(place.offset, bytes.len());
-    let size = smaller(place.size, bytes.len() - start);
+    let start = place.offset.min(bytes.len());
+    let size = place.size.min(bytes.len() - start);
     &bytes[start..start + size]
-}
-
-fn smaller(a: usize, b: usize) -> usize
-    ensures { result ≡ min a b }
-{
-    if a < b { a } else { b }
 }

@@ -2,9 +2,9 @@
 // Assumes nothing; no public function has a `requires`.
 #![tactic(auto)]
 
-ghost use Rattle.std.specs.Prelude.{◌≡◌, ◌+◌, ◌*◌, ◌%◌, ◌≤◌, length};
+ghost use Rattle.std.specs.Prelude.{◌≡◌, ◌+◌, ◌*◌, ◌≤◌, length};
 ghost use Rattle.map_output.specs.Decimal.{Spelled};
-ghost use Rattle.map_output.specs.MapOutput.{text_line, number_line, either_line, magic_line, kind_line, line_room};
+ghost use Rattle.map_output.specs.MapOutput.{text_line, number_line, either_line, line_room};
 ghost use Rattle.map_output.specs.MapOutput.{header_lines, area_lines, sector_lines, last_sector, layout_lines, refusal_line};
 ghost use Rattle.map_output.specs.MapOutput.{Written, Rendered};
 
@@ -19,14 +19,20 @@ pub const SIZE: usize = 10 * LINE;
 // The digits of a number of 64 bits at most.
 const DIGITS: usize = 20;
 
-// Puts the ten lines of a layout at the start of out, and answers how many bytes they have. What
-// stands behind them is left as it was. Made-up layouts have their lines too.
+// Puts the ten lines of a layout at the start of out, and answers how many bytes they have, since the library keeps no
+// heap. What stands behind them is left as it was. Made-up layouts have their lines too.
 pub fn layout_lines(layout: Layout, out: &mut [u8; SIZE]) -> usize
     ensures { Rendered (layout_lines layout) out.old out.new result }
 {
-    let area = put_header(out, 0, layout);
-    let sectors = put_area(out, area, layout);
-    put_sectors(out, sectors, layout)
+    let mut text = Text {
+        bytes: *out,
+        size: 0,
+    };
+    text.put_header(layout);
+    text.put_area(layout);
+    text.put_sectors(layout);
+    *out = text.bytes;
+    text.size
 }
 
 // Puts the line of a refusal at the start of out, and answers how many bytes it has. What stands
@@ -34,158 +40,118 @@ pub fn layout_lines(layout: Layout, out: &mut [u8; SIZE]) -> usize
 pub fn refusal_line(number: u8, out: &mut [u8; SIZE]) -> usize
     ensures { Rendered (refusal_line number) out.old out.new result }
 {
-    put_number(out, 0, b"refused", number as u64)
+    let mut text = Text {
+        bytes: *out,
+        size: 0,
+    };
+    text.put_number(b"refused", u64::from(number));
+    *out = text.bytes;
+    text.size
 }
 
-// What the header says of itself.
-fn put_header(out: &mut [u8], at: usize, layout: Layout) -> usize
-    requires { at + 3 * line_room ≤ length out.old }
-    ensures { Written (3 * line_room) (header_lines layout) out.old at out.new result }
-{
-    let version = put_magic(out, at, layout.magic);
-    let needs = put_number(out, version, b"version", layout.version);
-    put_number(out, needs, b"needs", layout.min_program_version)
+// A text that is written from the start of a buffer on: the buffer, and how many of its bytes the text has so far.
+// No heap, so no string. It holds the buffer and no reference, of which each method would have to promise that it
+// stays the same.
+#[derive(Drop)]
+struct Text {
+    bytes: [u8; SIZE],
+    size: usize,
 }
 
-fn put_magic(out: &mut [u8], at: usize, magic: u64) -> usize
-    requires { at + line_room ≤ length out.old }
-    ensures { Written line_room (magic_line magic) out.old at out.new result }
-{
-    put_either(
-        out,
-        at,
-        b"mark",
-        magic == header_format::VERA,
-        b"VERA",
-        b"TRUE",
-    )
-}
+impl Text {
+    // What the header says of itself.
+    fn put_header(&mut self, layout: Layout)
+        requires { self.old.size + 3 * line_room ≤ length self.old.bytes }
+        ensures { Written (3 * line_room) (header_lines layout) self.old.bytes self.old.size self.new.bytes self.new.size }
+    {
+        let vera = layout.magic == header_format::VERA;
+        self.put_either(b"mark", vera, b"VERA", b"TRUE");
+        self.put_number(b"version", layout.version);
+        self.put_number(b"needs", layout.min_program_version);
+    }
 
-// Where the data area lies in its host, in bytes.
-fn put_area(out: &mut [u8], at: usize, layout: Layout) -> usize
-    requires { at + 4 * line_room ≤ length out.old }
-    ensures { Written (4 * line_room) (area_lines layout) out.old at out.new result }
-{
-    let host = put_kind(out, at, layout.kind);
-    let start = put_number(out, host, b"host", layout.host_size);
-    let size = put_number(out, start, b"start", layout.data_start);
-    put_number(out, size, b"size", layout.data_size)
-}
+    // Where the data area lies in its host, in bytes.
+    fn put_area(&mut self, layout: Layout)
+        requires { self.old.size + 4 * line_room ≤ length self.old.bytes }
+        ensures { Written (4 * line_room) (area_lines layout) self.old.bytes self.old.size self.new.bytes self.new.size }
+    {
+        let hidden = layout.kind == layout::HIDDEN;
+        self.put_either(b"kind", hidden, b"hidden", b"standard");
+        self.put_number(b"host", layout.host_size);
+        self.put_number(b"start", layout.data_start);
+        self.put_number(b"size", layout.data_size);
+    }
 
-fn put_kind(out: &mut [u8], at: usize, kind: u64) -> usize
-    requires { at + line_room ≤ length out.old }
-    ensures { Written line_room (kind_line kind) out.old at out.new result }
-{
-    put_either(
-        out,
-        at,
-        b"kind",
-        kind == layout::HIDDEN,
-        b"hidden",
-        b"standard",
-    )
-}
+    // The same in sectors of the host.
+    fn put_sectors(&mut self, layout: Layout)
+        requires { self.old.size + 3 * line_room ≤ length self.old.bytes }
+        ensures { Written (3 * line_room) (sector_lines layout) self.old.bytes self.old.size self.new.bytes self.new.size }
+    {
+        self.put_number(b"sectors", layout.data_size / SECTOR_SIZE);
+        self.put_number(b"first", layout.data_start / SECTOR_SIZE);
+        self.put_number(b"last", last_sector(layout));
+    }
 
-// The same in sectors of the host.
-fn put_sectors(out: &mut [u8], at: usize, layout: Layout) -> usize
-    requires { at + 3 * line_room ≤ length out.old }
-    ensures { Written (3 * line_room) (sector_lines layout) out.old at out.new result }
-{
-    let first = put_number(out, at, b"sectors", layout.data_size / SECTOR_SIZE);
-    let last = put_number(out, first, b"first", layout.data_start / SECTOR_SIZE);
-    put_number(out, last, b"last", last_sector(layout))
+    // A line whose value is one of two words.
+    fn put_either(&mut self, label: &[u8], test: bool, one: &[u8], other: &[u8])
+        requires label_len_bound { length label.now ≤ 8 }
+        requires one_len_bound { length one.now ≤ 20 }
+        requires other_len_bound { length other.now ≤ 20 }
+        requires line_fits { self.old.size + line_room ≤ length self.old.bytes }
+        ensures { Written line_room (either_line label.now test one.now other.now) self.old.bytes self.old.size self.new.bytes self.new.size }
+    {
+        if test {
+            self.put_line(label, one);
+        } else {
+            self.put_line(label, other);
+        }
+    }
+
+    // A line whose value is a number.
+    fn put_number(&mut self, label: &[u8], number: u64)
+        requires label_len_bound { length label.now ≤ 8 }
+        requires line_fits { self.old.size + line_room ≤ length self.old.bytes }
+        ensures { Written line_room (number_line label.now number) self.old.bytes self.old.size self.new.bytes self.new.size }
+    {
+        let mut digits = [0u8; DIGITS];
+        let first = decimal(number, &mut digits);
+        self.put_line(label, &digits[first..]);
+    }
+
+    // A line. That a label is short is asked of slices, since a type for labels would be longer than the three lines.
+    fn put_line(&mut self, label: &[u8], value: &[u8])
+        requires label_len_bound { length label.now ≤ 8 }
+        requires value_len_bound { length value.now ≤ 20 }
+        requires line_fits { self.old.size + line_room ≤ length self.old.bytes }
+        ensures { Written line_room (text_line label.now value.now) self.old.bytes self.old.size self.new.bytes self.new.size }
+    {
+        self.put(label);
+        self.put(b" ");
+        self.put(value);
+        self.put(b"\n");
+    }
+
+    // Copies bytes behind the text.
+    fn put(&mut self, bytes: &[u8])
+        requires { self.old.size + length bytes.now ≤ length self.old.bytes }
+        ensures { Written (length bytes.now) bytes.now self.old.bytes self.old.size self.new.bytes self.new.size }
+    {
+        let end = self.size + bytes.len();
+        self.bytes[self.size..end].copy_from_slice(bytes);
+        self.size = end;
+    }
 }
 
 fn last_sector(layout: Layout) -> u64
     ensures { result ≡ last_sector layout }
 {
-    let first = layout.data_start / SECTOR_SIZE;
     let sectors = layout.data_size / SECTOR_SIZE;
-    if sectors == 0 {
-        first
-    } else {
-        first + (sectors - 1)
-    }
-}
-
-// A line whose value is one of two words.
-fn put_either(
-    out: &mut [u8],
-    at: usize,
-    label: &[u8],
-    test: bool,
-    one: &[u8],
-    other: &[u8],
-) -> usize
-    requires label_len_bound { length label.now ≤ 8 }
-    requires one_len_bound { length one.now ≤ 20 }
-    requires other_len_bound { length other.now ≤ 20 }
-    requires line_fits { at + line_room ≤ length out.old }
-    ensures { Written line_room (either_line label.now test one.now other.now) out.old at out.new result }
-{
-    if test {
-        put_line(out, at, label, one)
-    } else {
-        put_line(out, at, label, other)
-    }
-}
-
-// A line whose value is a number.
-fn put_number(out: &mut [u8], at: usize, label: &[u8], number: u64) -> usize
-    requires label_len_bound { length label.now ≤ 8 }
-    requires line_fits { at + line_room ≤ length out.old }
-    ensures { Written line_room (number_line label.now number) out.old at out.new result }
-{
-    let mut digits = [0u8; DIGITS];
-    let first = decimal(number, &mut digits);
-    put_line(out, at, label, &digits[first..])
+    layout.data_start / SECTOR_SIZE + sectors.saturating_sub(1)
 }
 
 // Puts a number's decimal digits at the end of digits, and answers where they start.
 fn decimal(number: u64, digits: &mut [u8; DIGITS]) -> usize
-    requires { length digits.old ≡ 20 }
     ensures { Spelled number digits.new result }
 {
-    let mut at = DIGITS - 1;
-    digits[at] = digit(number);
-    let mut rest = number / 10;
-    while 0 < rest {
-        at -= 1;
-        digits[at] = digit(rest);
-        rest /= 10;
-    }
-    at
-}
-
-// The last digit of a number.
-fn digit(number: u64) -> u8
-    ensures { result ≡ 48 + number % 10 }
-{
-    48 + (number % 10) as u8
-}
-
-// A line.
-fn put_line(out: &mut [u8], at: usize, label: &[u8], value: &[u8]) -> usize
-    requires label_len_bound { length label.now ≤ 8 }
-    requires value_len_bound { length value.now ≤ 20 }
-    requires line_fits { at + line_room ≤ length out.old }
-    ensures { Written line_room (text_line label.now value.now) out.old at out.new result }
-{
-    let space = put(out, at, label);
-    let first = put(out, space, b" ");
-    let end = put(out, first, value);
-    put(out, end, b"\n")
-}
-
-// Copies bytes into out at a position, and answers the position behind them.
-fn put(out: &mut [u8], at: usize, bytes: &[u8]) -> usize
-    requires { at + length bytes.now ≤ length out.old }
-    ensures { Written (length bytes.now) bytes.now out.old at out.new result }
-{
-    let mut i = 0;
-    while i < bytes.len() {
-        out[at + i] = bytes[i];
-        i += 1;
-    }
-    at + i
+    itoa::write_digits(number, digits, DIGITS)
 }

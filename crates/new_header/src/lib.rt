@@ -2,15 +2,14 @@
 // Assumes nothing; no public function has a `requires`.
 #![tactic(auto)]
 
-ghost use Rattle.std.specs.Prelude.{◌≡◌, ◌+◌, ◌≤◌, length, replicate};
+ghost use Rattle.std.specs.Prelude.{◌≡◌, ◌+◌, ◌≤◌, length};
 ghost use Rattle.fields.specs.Bytes.{overlay};
 ghost use Rattle.numbers.specs.Numbers.{big_endian_bytes};
-ghost use Rattle.header_format.specs.Format.{header_bytes};
-ghost use Rattle.new_header.specs.NewHeader.{magic_bytes, new_fields, number_contents, contents, laid};
+ghost use Rattle.new_header.specs.NewHeader.{magic_bytes, new_fields, number_contents, laid};
 ghost use Rattle.new_header.specs.NewHeader.{summed, new_header, header_over};
 
 use fields::Field;
-use header_format::{Fields, places};
+use header_format::{Fields, KEYS_SIZE, SALT_SIZE, SIZE, places};
 use layout::Layout;
 
 // Lays the header of a layout, with a salt and keys, over all of header. Both checksums are made, and what no
@@ -18,44 +17,38 @@ use layout::Layout;
 pub fn lay(layout: Layout, salt: &[u8], keys: &[u8], header: &mut [u8])
     ensures { header.new ≡ header_over layout salt.now keys.now header.old }
 {
-    if header_format::lengths_fit(salt.len(), keys.len(), header.len()) {
+    let Some(salt) = salt.as_array() else {
+        return;
+    };
+    let Some(keys) = keys.as_array() else {
+        return;
+    };
+    if let Some(header) = header.as_mut_array() {
         fill(layout, salt, keys, header);
     }
 }
 
-fn fill(layout: Layout, salt: &[u8], keys: &[u8], header: &mut [u8])
-    requires salt_len { length salt.now ≡ 64 }
-    requires keys_len { length keys.now ≡ 256 }
-    requires header_len { length header.old ≡ 512 }
+// Lays all fields over zeros, the checksums last.
+fn fill(layout: Layout, salt: &[u8; SALT_SIZE], keys: &[u8; KEYS_SIZE], header: &mut [u8; SIZE])
     ensures { header.new ≡ new_header layout salt.now keys.now }
 {
-    put_fields(layout, salt, keys, header);
-    put_checksum(header, places::KEYS, places::KEY_CHECKSUM);
-    put_checksum(header, places::CHECKED, places::HEADER_CHECKSUM);
-}
-
-// Lays all fields but the checksums over zeros.
-fn put_fields(layout: Layout, salt: &[u8], keys: &[u8], header: &mut [u8])
-    requires salt_len { length salt.now ≡ 64 }
-    requires keys_len { length keys.now ≡ 256 }
-    requires header_len { length header.old ≡ 512 }
-    ensures { header.new ≡ laid (contents layout salt.now keys.now) (replicate header_bytes 0) }
-{
-    let magic = magic_bytes(layout.magic);
-    clear(header);
+    header.fill(0);
     put(header, places::SALT.offset, salt);
-    put(header, places::MAGIC.offset, &magic);
+    put(header, places::MAGIC.offset, &magic_bytes(layout.magic));
     put(header, places::KEYS.offset, keys);
     put_numbers(header, new_fields(layout));
+    put_checksum(header, places::KEYS, places::KEY_CHECKSUM);
+    put_checksum(header, places::CHECKED, places::HEADER_CHECKSUM);
 }
 
 fn magic_bytes(magic: u64) -> [u8; 4]
     ensures { result ≡ magic_bytes magic }
 {
     if magic == header_format::VERA {
-        return header_format::VERA_MAGIC;
+        header_format::VERA_MAGIC
+    } else {
+        header_format::TRUE_MAGIC
     }
-    header_format::TRUE_MAGIC
 }
 
 fn new_fields(layout: Layout) -> Fields
@@ -77,33 +70,23 @@ fn hidden_size(layout: Layout) -> u64
     ensures { result ≡ (new_fields layout).hidden_size }
 {
     if layout.kind == layout::HIDDEN {
-        return layout.data_size;
-    }
-    0
-}
-
-// Sets every byte to zero.
-fn clear(header: &mut [u8])
-    ensures { header.new ≡ replicate (length header.old) 0 }
-{
-    let mut i = 0;
-    while i < header.len() {
-        header[i] = 0;
-        i += 1;
+        layout.data_size
+    } else {
+        0
     }
 }
 
-// Lays bytes over the header's from an offset on.
-fn put(header: &mut [u8], offset: usize, content: &[u8])
-    requires { offset + length content.now ≤ length header.old }
+// Lays bytes over the header's from an offset on. A function and no method: a struct would hold a copy, which leaves
+// keys on the stack, or a reference, and each method would have to promise that it stays the same.
+fn put(header: &mut [u8; SIZE], offset: usize, content: &[u8])
+    requires { offset + length content.now ≤ 512 }
     ensures { header.new ≡ overlay offset content.now header.old }
 {
     copy::lay(content, header, offset);
 }
 
 // Lays the fields that hold numbers.
-fn put_numbers(header: &mut [u8], fields: Fields)
-    requires { length header.old ≡ 512 }
+fn put_numbers(header: &mut [u8; SIZE], fields: Fields)
     ensures { header.new ≡ laid (number_contents fields) header.old }
 {
     put_number(header, places::VERSION, fields.version);
@@ -121,8 +104,8 @@ fn put_numbers(header: &mut [u8], fields: Fields)
 }
 
 // Spells a number in a field.
-fn put_number(header: &mut [u8], field: Field, number: u64)
-    requires { field.offset + field.size ≤ length header.old }
+fn put_number(header: &mut [u8; SIZE], field: Field, number: u64)
+    requires { field.offset + field.size ≤ 512 }
     ensures { header.new ≡ overlay field.offset (big_endian_bytes field.size number) header.old }
 {
     let start = field.offset;
@@ -131,10 +114,10 @@ fn put_number(header: &mut [u8], field: Field, number: u64)
 }
 
 // Spells the checksum of one field in another.
-fn put_checksum(header: &mut [u8], of: Field, into: Field)
-    requires { into.offset + into.size ≤ length header.old }
+fn put_checksum(header: &mut [u8; SIZE], of: Field, into: Field)
+    requires { into.offset + into.size ≤ 512 }
     ensures { header.new ≡ summed of into header.old }
 {
     let checksum = crc32::checksum(fields::field_bytes(header, of));
-    put_number(header, into, checksum as u64);
+    put_number(header, into, u64::from(checksum));
 }

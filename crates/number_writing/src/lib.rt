@@ -11,10 +11,9 @@ pub fn write_big_endian(number: u64, bytes: &mut [u8])
     ensures { bytes.new ≡ big_endian_bytes (length bytes.old) number }
 {
     let mut high = number;
-    let mut unwritten = bytes.len();
-    while 0 < unwritten {
-        unwritten -= 1;
-        bytes[unwritten] = (high % 256) as u8;
+    // By an index: of bytes that are written through iter_mut().rev() a proof knows nothing.
+    for at in (0..bytes.len()).rev() {
+        bytes[at] = (high % 256) as u8;
         high /= 256;
     }
 }
@@ -25,10 +24,8 @@ pub fn write_little_endian(number: u64, bytes: &mut [u8])
     ensures { bytes.new ≡ little_endian_bytes (length bytes.old) number }
 {
     let mut rest = number;
-    let mut at = 0;
-    while at < bytes.len() {
-        bytes[at] = (rest % 256) as u8;
+    for byte in bytes.iter_mut() {
+        *byte = (rest % 256) as u8;
         rest /= 256;
-        at += 1;
     }
 }

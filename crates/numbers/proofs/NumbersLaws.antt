@@ -2,9 +2,8 @@
 use mathlib.Core.{Path.{◌≡◌, refl}, List.{List, [], ◌∷◌, ◌++◌}}
 use Prim.Native.Nat.{ℕ, suc, ◌+◌, ◌*◌, ◌%◌, ◌^◌, ◌≤◌, ◌<◌}
 use native.Mathlib.Nat.{lt_of_lt_of_le, mul-le-mul_right, mul_assoc, one-mul, pow-succ', pow-le-pow_right, zero-lt-suc}
-use native.Mathlib.Numerals.{add-one}
 use native.Mathlib.Omega.{arith}
-use lib.{ListN.{length, get_or, take, drop}, Seq.{take-suc, drop-cons}}
+use lib.{ListN.{length, get_or}}
 use Rattle.numbers.specs.Numbers.{big_endian_from, big_endian, little_endian, ReadAs}
 
 -- ---- one byte more
@@ -17,13 +16,6 @@ big_endian_from_append a (x ∷ xs) ys = big_endian_from_append (a * 256 + x) xs
 pub big_endian_snoc : (bs : List ℕ) (b : ℕ) → big_endian (bs ++ (b ∷ [])) ≡ big_endian bs * 256 + b
 unfolding big_endian big_endian_from
 big_endian_snoc bs b = big_endian_from_append 0 bs (b ∷ [])
-
-pub big_endian_take : (bs : List ℕ) (i : ℕ) → i < length bs → big_endian (take (i + 1) bs) ≡ big_endian (take i bs) * 256 + get_or bs i 0
-big_endian_take bs i h = rw (add-one, take-suc bs i 0, big_endian_snoc)
-
-pub little_endian_drop : (bs : List ℕ) (i : ℕ) → i < length bs → little_endian (drop i bs) ≡ get_or bs i 0 + 256 * little_endian (drop (i + 1) bs)
-unfolding little_endian
-little_endian_drop bs i h = rw (add-one, drop-cons bs i 0)
 
 -- ---- the bound: bytes spell a number of as many base-256 digits
 

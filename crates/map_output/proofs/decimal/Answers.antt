@@ -1,37 +1,28 @@
-use Prim.Native.Nat.{ℕ, ◌+◌, ◌-◌}
-use mathlib.Core.{Path.{◌≡◌, sym, ap, ◌∙◌}, List.{List, ◌++◌}}
+-- `map_output::decimal` meets its contract: the digits are those that the library prints.
+use mathlib.Core.{Path.{◌∙◌, ap}, List.{List, ◌++◌, append-nil}}
+use Prim.Native.Nat.{ℕ, ◌≤◌, ◌<◌}
 use native.Mathlib.Omega.{arith}
-use lib.ListN.{drop, length-set}
-use Rattle.map_output.specs.Decimal.{digits}
-use Rattle.map_output.proofs.DigitLaws.{digits_none, written_last, written_digit, fewer_digits}
+use borrow.Author.Rules.{rules}
+use lib.ListN.{length, drop_of_length-le}
+use Rattle.std.specs.Fmt as printed
+use Rattle.std.proofs.lemmas.Fmt.{length-decimal-le, decimal_nonempty}
+use Rattle.map_output.proofs.DigitLaws.{decimal_printed}
 use Rattle.map_output.proofs.decimal.Goals as goal
 
-pub loop-rest-init : goal.loop-rest-init
-loop-rest-init c =
-    let a = c.args in
-    (omega arith, simp length-set c.requires, omega arith, rw c.digit.ensures (written_last a.digits.now a.number c.requires))
-
-pub overflow_sub-at-in-loop-rest : goal.overflow_sub-at-in-loop-rest
-overflow_sub-at-in-loop-rest c = (fewer_digits c.loop-rest.at c.loop-rest.rest c.loop-rest-test.true c.loop-rest.invariant.2).0
-
-pub loop-rest-preserved : goal.loop-rest-preserved
-loop-rest-preserved c =
-    let l = c.loop-rest in
-    let fewer = fewer_digits l.at l.rest c.loop-rest-test.true l.invariant.2 in
-    let back : l.at - 1 + 1 ≡ l.at = omega (arith, fewer.0) in
-    let step = rw back at (written_digit l.digits (l.at - 1) l.rest (omega arith) c.loop-rest-test.true) in (
-      omega arith,
-      simp length-set l.invariant.1,
-      fewer.1,
-      rw c.digit-in-loop-rest.ensures (sym step ∙ l.invariant.3),
-    )
+pub write_digits-requires : goal.write_digits-requires
+write_digits-requires c = (search (rules, length-decimal-le 20), omega arith)
 
 pub returns : goal.returns
 returns c =
-    let l = c.loop-rest in
-    let none : l.rest ≡ 0 = omega arith in
+    let number : ℕ = c.args.number in
+    let some : 0 < length (printed.decimal number) = decimal_nonempty number (omega arith) in
+    let none : length c.args.digits.now ≤ 20 = omega arith in
     record {
-      size = l.invariant.1;
-      start = l.invariant.0;
-      content = sym (ap (λ (bytes : List ℕ). bytes ++ drop l.at l.digits) (ap (digits l.at) none ∙ digits_none l.at)) ∙ l.invariant.3;
+      size = search rules;
+      start = omega (arith, some, c.write_digits.ensures.start);
+      content =
+          c.write_digits.ensures.written
+          ∙ ap (λ (rest : List ℕ). printed.decimal number ++ rest) (drop_of_length-le c.args.digits.now none)
+          ∙ append-nil (printed.decimal number)
+          ∙ decimal_printed number (omega arith);
     }

@@ -1,14 +1,10 @@
 -- `map_output::last_sector` meets its contract.
-use mathlib.Core.Path.{refl}
-use borrow.Author.Rules.{rules}
+use mathlib.Core.Path.{ap}
+use Prim.Native.Nat.{ℕ, ◌+◌, ◌/◌}
 use Rattle.sector_map.specs.SectorMap.{sectors, first_sector}
 use Rattle.map_output.specs.MapOutput.{last_sector}
 use Rattle.map_output.proofs.last_sector.Goals as goal
 
-pub returns-then-sectors-eq0 : goal.returns-then-sectors-eq0
+pub returns : goal.returns
 unfolding last_sector sectors first_sector
-returns-then-sectors-eq0 c = search rules
-
-pub returns-else-sectors-eq0 : goal.returns-else-sectors-eq0
-unfolding last_sector sectors first_sector
-returns-else-sectors-eq0 c = refl
+returns c = ap (λ (n : ℕ). c.args.layout.data_start / 512 + n) c.saturating_sub.ensures

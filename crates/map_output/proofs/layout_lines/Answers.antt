@@ -5,5 +5,4 @@ use Rattle.map_output.proofs.layout_lines.Goals as goal
 
 pub returns : goal.returns
 unfolding layout_lines
-returns c =
-    written_first (written_append (written_append c.put_header-area.ensures c.put_area-sectors.ensures) c.put_sectors.ensures)
+returns c = written_first (written_append (written_append c.put_header.ensures c.put_area.ensures) c.put_sectors.ensures)

@@ -5,4 +5,4 @@ use Rattle.map_output.proofs.refusal_line.Goals as goal
 
 pub returns : goal.returns
 unfolding refusal_line
-returns c = written_first c.put_number.ensures
+returns c = rw (← c.from.ensures) (written_first c.put_number.ensures)

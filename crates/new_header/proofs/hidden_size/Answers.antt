@@ -8,6 +8,6 @@ pub returns-then-layout-eq-HIDDEN : goal.returns-then-layout-eq-HIDDEN
 unfolding new_fields
 returns-then-layout-eq-HIDDEN c = rw (eq-eqb _ _ c.if-layout-eq-HIDDEN.true) refl
 
-pub returns : goal.returns
+pub returns-else-layout-eq-HIDDEN : goal.returns-else-layout-eq-HIDDEN
 unfolding new_fields
-returns c = rw (ne_eqb _ _ c.if-layout-eq-HIDDEN.false) refl
+returns-else-layout-eq-HIDDEN c = rw (ne_eqb _ _ c.if-layout-eq-HIDDEN.false) refl

@@ -7,6 +7,6 @@ pub returns-then-magic-eq-VERA : goal.returns-then-magic-eq-VERA
 unfolding magic_bytes
 returns-then-magic-eq-VERA c = simp (eq-eqb _ _ c.if-magic-eq-VERA.true)
 
-pub returns : goal.returns
+pub returns-else-magic-eq-VERA : goal.returns-else-magic-eq-VERA
 unfolding magic_bytes
-returns c = simp (ne_eqb _ _ c.if-magic-eq-VERA.false)
+returns-else-magic-eq-VERA c = simp (ne_eqb _ _ c.if-magic-eq-VERA.false)

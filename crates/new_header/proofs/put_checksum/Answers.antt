@@ -13,4 +13,4 @@ returns c =
     let header : List ℕ = c.args.header.now in
     let into = c.args.into in
     c.put_number.ensures
-    ∙ ap (λ (n : ℕ). overlay into.offset (big_endian_bytes into.size n) header) (c.checksum-checksum.ensures ∙ ap crc32 c.field_bytes.ensures)
+    ∙ ap (λ (n : ℕ). overlay into.offset (big_endian_bytes into.size n) header) (c.from.ensures ∙ c.checksum-checksum.ensures ∙ ap crc32 c.field_bytes.ensures)

@@ -1,27 +1,15 @@
-use mathlib.Core.{Path.{refl, sym, ◌∙◌}}
-use native.Mathlib.Nat.{sub-zero}
+use mathlib.Core.Path.{sym, ◌∙◌}
 use native.Mathlib.Omega.{arith}
-use borrow.Author.Rules.{rules}
-use lib.ListN.{length, length-set}
+use lib.ListN.{length}
 use Rattle.numbers.proofs.WrittenLaws.{written_suc, written_end}
 use Rattle.number_writing.proofs.write_little_endian.Goals as goal
 
-pub loop-at-init : goal.loop-at-init
-loop-at-init c = (search rules, (refl, rw sub-zero))
-
-pub loop-at-preserved : goal.loop-at-preserved
-loop-at-preserved c =
-    let n = length c.args.bytes.now in
-    let at = c.loop-at in (
-      omega arith,
-      (
-        simp length-set at.invariant.1.0,
-        at.invariant.1.1 ∙ written_suc at.bytes n at.at at.rest (omega arith) at.invariant.1.0,
-      ),
-    )
+pub loop-byte-preserved : goal.loop-byte-preserved
+loop-byte-preserved c =
+    let at = c.loop-byte in
+    at.invariant ∙ written_suc at.bytes (length c.args.bytes.now) at.byte-index at.rest (omega arith) (omega arith)
 
 pub returns : goal.returns
 returns c =
-    let n = length c.args.bytes.now in
-    let at = c.loop-at in
-    sym (at.invariant.1.1 ∙ written_end at.bytes n at.at at.rest (omega arith) at.invariant.1.0)
+    let at = c.loop-byte in
+    sym (at.invariant ∙ written_end at.bytes (length c.args.bytes.now) at.byte-index at.rest (omega arith) (omega arith))

@@ -1,28 +1,13 @@
-use Prim.Native.Nat.{ℕ, ◌+◌, ◌-◌}
-use mathlib.Core.{Path.{◌≡◌, ap}, List.List}
-use native.Mathlib.Omega.{arith}
-use lib.{Seq.drop-length}
-use Rattle.numbers.specs.Numbers.{little_endian}
-use Rattle.numbers.proofs.NumbersLaws.{little_endian_drop, little_endian_lt, read_as}
+-- `numbers::read_little_endian` meets its contract: it folds over the bytes from the last on, which spell less than 2^64 where they are at most eight.
+use mathlib.Core.{Path.{◌≡◌, ◌∙◌}, List.{List, reverse}}
+use Prim.Native.Nat.{ℕ}
+use borrow.Author.Rules.{rules}
+use Rattle.std.specs.List.{fold}
+use Rattle.numbers.proofs.{FoldLaws.{with_byte, little_endian_fold}, NumbersLaws.{little_endian_lt, read_as}}
 use Rattle.numbers.proofs.read_little_endian.Goals as goal
-
-pub loop-left-init : goal.loop-left-init
-unfolding little_endian
-loop-left-init c = omega (arith, ap little_endian (drop-length c.args.bytes.now))
-
-pub overflow_add-number : goal.overflow_add-number
-overflow_add-number c = omega (arith, c.type_inv.bytes (c.loop-left.left - 1))
-
-pub loop-left-preserved : goal.loop-left-preserved
-loop-left-preserved c =
-    let left : ℕ = c.loop-left.left in
-    let bytes : List ℕ = c.args.bytes.now in
-    let back : left - 1 + 1 ≡ left = omega arith in
-    let step = rw back at (little_endian_drop bytes (left - 1) (omega arith)) in
-    omega (arith, c.type_inv.bytes (left - 1), step)
 
 pub returns : goal.returns
 returns c =
     let bytes : List ℕ = c.args.bytes.now in
-    let none : c.loop-left.left ≡ 0 = omega arith in
-    read_as (rw none at c.loop-left.invariant.1) (little_endian_lt bytes (λ k. (c.type_inv.bytes k).fits))
+    let folded : c.fold.result ≡ fold with_byte 0 (reverse bytes) = search rules in
+    read_as (folded ∙ little_endian_fold bytes) (little_endian_lt bytes (λ k. (c.type_inv.bytes k).fits))

@@ -1,10 +1,10 @@
--- `map_output::put_number` meets its contract.
+-- `map_output::Text::put_number` meets its contract.
 use Prim.Native.Nat.{ℕ, ◌-◌, ◌≤◌}
 use mathlib.Core.{List.List, Path.◌≡◌}
 use native.Mathlib.Omega.{arith}
 use lib.{ListN.{length, take, drop, length-drop}, Seq.take_all}
 use Rattle.map_output.specs.MapOutput.{number_line}
-use Rattle.map_output.proofs.put_number.Goals as goal
+use Rattle.map_output.proofs.Text.put_number.Goals as goal
 
 pub returns : goal.returns
 unfolding number_line
