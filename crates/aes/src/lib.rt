@@ -1,6 +1,7 @@
 // AES with keys of 256 bits (FIPS 197): the cipher and its inverse. A block is its four columns of four
 // bytes; blocks and the fifteen round keys pass by value.
-// The tables that a function borrows are to be those of `aes_tables`: with others its answer is left free.
+// The tables that a function borrows are to be those of `aes_tables`: with others its answer is left free. Public functions
+// take any, since a type of these tables alone would narrow what they take.
 // Assumes nothing; no public function has a `requires`.
 #![tactic(auto)]
 
@@ -31,6 +32,7 @@ pub fn convert_block(
 }
 
 // A block enciphered with round keys.
+// Beside its inverse: one function of both would be given the rounds, the order of keys and the last round, and be no plainer.
 fn encipher_block(
     tables: &[[u8; 256]; 2],
     keys: [[[u8; 4]; 4]; 15],
@@ -39,11 +41,10 @@ fn encipher_block(
     ensures { ByTables tables.now (result ≡ cipher keys block) }
 {
     let mut state = aes_steps::add_round_key(keys[0], block);
-    let mut r = 0;
-    while r < 13 {
-        let after = aes_steps::round(tables, keys[r + 1], state);
+    // In two steps, here and below: no proof follows a call whose array goes straight into what it was lent.
+    for r in 1..14 {
+        let after = aes_steps::round(tables, keys[r], state);
         state = after;
-        r += 1;
     }
     aes_steps::last_round(tables, keys[14], state)
 }
@@ -57,11 +58,9 @@ fn decipher_block(
     ensures { ByTables tables.now (result ≡ inv_cipher keys block) }
 {
     let mut state = aes_steps::add_round_key(keys[14], block);
-    let mut r = 13;
-    while 0 < r {
+    for r in (1..14).rev() {
         let after = aes_steps::inv_round(tables, keys[r], state);
         state = after;
-        r -= 1;
     }
     aes_steps::last_inv_round(tables, keys[0], state)
 }

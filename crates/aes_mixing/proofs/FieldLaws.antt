@@ -24,35 +24,38 @@ pub product_2 : (a : ℕ) → product 2 a ≡ times_x a
 unfolding product product_of where_set
 product_2 a = xor_zero_r (times_x a)
 
-module _ (a : ℕ) where
-  abbrev a2 : ℕ
-  a2 = times_x a
+pub where_unset : (bit a : ℕ) → bit ≡ 0 → 0 ≡ where_set bit a
+unfolding where_set
+where_unset bit a e = ap (λ (b : ℕ). where_set b a) (sym e)
 
-  abbrev a4 : ℕ
-  a4 = times_x a2
+pub where_set_one : (bit a : ℕ) → (bit ≡ 0 → ⊥) → a ≡ where_set bit a
+unfolding where_set
+where_set_one zero a other = absurd (other refl)
+where_set_one (suc bit) a other = refl
 
-  abbrev a8 : ℕ
-  a8 = times_x a4
+-- a factor of four bits
+product_of_zero : (n a : ℕ) → product_of n 0 a ≡ 0
+unfolding product_of where_set
+product_of_zero zero a = refl
+product_of_zero (suc n) a = ap (bit_xor 0) (product_of_zero n (times_x a))
 
-  pub product_3 : bit_xor a a2 ≡ product 3 a
-  unfolding product product_of where_set
-  product_3 = ap (bit_xor a) (sym (xor_zero_r a2))
-
-  pub product_9 : bit_xor a a8 ≡ product 9 a
-  unfolding product product_of where_set
-  product_9 = ap (bit_xor a) (sym (xor_zero_r a8))
-
-  pub product_11 : bit_xor a (bit_xor a2 a8) ≡ product 11 a
-  unfolding product product_of where_set
-  product_11 = ap (λ (x : ℕ). bit_xor a (bit_xor a2 x)) (sym (xor_zero_r a8))
-
-  pub product_13 : bit_xor a (bit_xor a4 a8) ≡ product 13 a
-  unfolding product product_of where_set
-  product_13 = ap (λ (x : ℕ). bit_xor a (bit_xor a4 x)) (sym (xor_zero_r a8))
-
-  pub product_14 : bit_xor a2 (bit_xor a4 a8) ≡ product 14 a
-  unfolding product product_of where_set
-  product_14 = ap (λ (x : ℕ). bit_xor a2 (bit_xor a4 x)) (sym (xor_zero_r a8))
+pub product_of_bits : (factor a : ℕ) → factor < 16
+    → bit_xor (where_set (factor % 2) a)
+    (bit_xor (where_set (factor / 2 % 2) (times_x a))
+    (bit_xor (where_set (factor / 4 % 2) (times_x (times_x a))) (where_set (factor / 8 % 2) (times_x (times_x (times_x a))))))
+    ≡ product factor a
+unfolding product product_of
+product_of_bits factor a small =
+    let a2 = times_x a in
+    let a4 = times_x a2 in
+    let a8 = times_x a4 in
+    let fourth : factor / 4 ≡ factor / 2 / 2 = omega arith in
+    let eighth : factor / 8 ≡ factor / 2 / 2 / 2 = omega arith in
+    let none : 0 ≡ factor / 2 / 2 / 2 / 2 = omega arith in
+    let last = sym (xor_zero_r (where_set (factor / 8 % 2) a8)) ∙ ap (bit_xor (where_set (factor / 8 % 2) a8)) (sym (product_of_zero 4 (times_x a8))) in
+    ap (λ (rest : ℕ). bit_xor (where_set (factor % 2) a) (bit_xor (where_set (factor / 2 % 2) a2) (bit_xor (where_set (factor / 4 % 2) a4) rest))) last
+    ∙ (λ i. bit_xor (where_set (factor % 2) a) (bit_xor (where_set (factor / 2 % 2) a2)
+    (bit_xor (where_set (fourth i % 2) a4) (bit_xor (where_set (eighth i % 2) a8) (product_of 4 (none i) (times_x a8))))))
 
 -- ---- sums
 

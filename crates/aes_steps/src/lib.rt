@@ -1,6 +1,7 @@
 // The rounds of AES and of its inverse (FIPS 197), plainly. A block is its four columns of four bytes; blocks and
 // round keys pass by value.
-// The tables that a function borrows are to be those of `aes_tables`: with others its answer is left free.
+// The tables that a function borrows are to be those of `aes_tables`: with others its answer is left free. Public functions
+// take any, since a type of these tables alone would narrow what they take.
 // Assumes nothing; no public function has a `requires`.
 #![tactic(auto)]
 

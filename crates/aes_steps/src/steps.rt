@@ -1,8 +1,10 @@
 // What a round does to a block, step by step.
-ghost use Rattle.std.specs.Prelude.{◌≡◌};
+ghost use Rattle.std.specs.Prelude.{◌≡◌, [], ◌∷◌, slice_index};
 ghost use Rattle.aes_tables.specs.SBox.{ByTables};
 ghost use Rattle.aes_steps.specs.Blocks.{sub_bytes, inv_sub_bytes, shift_rows, inv_shift_rows};
 
+// The columns are written out, here, in its inverse and in `add_round_key`: of a closure that gives an array nothing is
+// inferred, so that `map`, or one function that takes what is done to a column, would need the clause once more.
 pub fn sub_bytes(tables: &[[u8; 256]; 2], s: [[u8; 4]; 4]) -> [[u8; 4]; 4]
     ensures { ByTables tables.now (result ≡ sub_bytes s) }
 {
@@ -25,32 +27,35 @@ pub fn inv_sub_bytes(tables: &[[u8; 256]; 2], s: [[u8; 4]; 4]) -> [[u8; 4]; 4]
     ]
 }
 
+// Row r moves r columns to the left, around.
 pub fn shift_rows(s: [[u8; 4]; 4]) -> [[u8; 4]; 4]
     ensures { result ≡ shift_rows s }
 {
-    let a = s[0];
-    let b = s[1];
-    let c = s[2];
-    let d = s[3];
+    let [a, b, c, d] = s;
     [
-        [a[0], b[1], c[2], d[3]],
-        [b[0], c[1], d[2], a[3]],
-        [c[0], d[1], a[2], b[3]],
-        [d[0], a[1], b[2], c[3]],
+        diagonal(a, b, c, d),
+        diagonal(b, c, d, a),
+        diagonal(c, d, a, b),
+        diagonal(d, a, b, c),
     ]
 }
 
+// .. and back, to the right.
 pub fn inv_shift_rows(s: [[u8; 4]; 4]) -> [[u8; 4]; 4]
     ensures { result ≡ inv_shift_rows s }
 {
-    let a = s[0];
-    let b = s[1];
-    let c = s[2];
-    let d = s[3];
+    let [a, b, c, d] = s;
     [
-        [a[0], d[1], c[2], b[3]],
-        [b[0], a[1], d[2], c[3]],
-        [c[0], b[1], a[2], d[3]],
-        [d[0], c[1], b[2], a[3]],
+        diagonal(a, d, c, b),
+        diagonal(b, a, d, c),
+        diagonal(c, b, a, d),
+        diagonal(d, c, b, a),
     ]
+}
+
+// The column whose byte in row r is that of the rth of four columns.
+fn diagonal(a: [u8; 4], b: [u8; 4], c: [u8; 4], d: [u8; 4]) -> [u8; 4]
+    ensures { result ≡ slice_index a 0 ∷ slice_index b 1 ∷ slice_index c 2 ∷ slice_index d 3 ∷ [] }
+{
+    [a[0], b[1], c[2], d[3]]
 }

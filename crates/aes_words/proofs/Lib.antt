@@ -1,1 +1,2 @@
 pub mod FoursLaws
+pub mod MadeLaws

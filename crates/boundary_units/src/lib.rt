@@ -3,7 +3,7 @@
 #![tactic(auto)]
 
 ghost use Rattle.std.specs.Prelude.{◌≡◌};
-ghost use Rattle.xts.specs.Units.{enciphered, deciphered};
+ghost use Rattle.xts.specs.Units.{converted, enciphered, deciphered};
 
 use aes::Direction;
 
@@ -11,18 +11,18 @@ use aes::Direction;
 pub fn encipher(key: &[u8; 64], tweak_number: u64, unit: &mut [u8; 512])
     ensures { unit.new ≡ enciphered key.now tweak_number unit.old }
 {
-    let key = *key;
-    let plaintext = *unit;
-    let result = xts::convert(Direction::Encipher, key, tweak_number, plaintext);
-    *unit = result;
+    convert(Direction::Encipher, key, tweak_number, unit);
 }
 
 // A unit deciphered in its place.
 pub fn decipher(key: &[u8; 64], tweak_number: u64, unit: &mut [u8; 512])
     ensures { unit.new ≡ deciphered key.now tweak_number unit.old }
 {
-    let key = *key;
-    let stored = *unit;
-    let result = xts::convert(Direction::Decipher, key, tweak_number, stored);
-    *unit = result;
+    convert(Direction::Decipher, key, tweak_number, unit);
+}
+
+fn convert(direction: Direction, key: &[u8; 64], tweak_number: u64, unit: &mut [u8; 512])
+    ensures { unit.new ≡ converted direction key.now tweak_number unit.old }
+{
+    *unit = xts::convert(direction, *key, tweak_number, *unit);
 }

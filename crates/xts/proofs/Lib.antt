@@ -1,3 +1,4 @@
+pub mod NumberLaws
 pub mod PieceLaws
 pub mod RunLaws
 pub mod UnitLaws

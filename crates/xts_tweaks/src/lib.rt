@@ -11,9 +11,9 @@ pub fn times_alpha(t: [[u8; 4]; 4]) -> [[u8; 4]; 4]
 {
     [
         raise_word(reduced(t[3][3]), t[0]),
-        raise_word(t[0][3] / 128, t[1]),
-        raise_word(t[1][3] / 128, t[2]),
-        raise_word(t[2][3] / 128, t[3]),
+        raise_word(t[0][3] >> 7, t[1]),
+        raise_word(t[1][3] >> 7, t[2]),
+        raise_word(t[2][3] >> 7, t[3]),
     ]
 }
 
@@ -21,7 +21,7 @@ pub fn times_alpha(t: [[u8; 4]; 4]) -> [[u8; 4]; 4]
 fn reduced(last: u8) -> u8
     ensures { result ≡ 135 * (last / 128) }
 {
-    135 * (last / 128)
+    0x87 * (last >> 7)
 }
 
 // A word's bits moved up by one, with what comes into its first byte.
@@ -29,9 +29,9 @@ fn raise_word(carry: u8, w: [u8; 4]) -> [u8; 4]
     ensures { result ≡ raised_word carry w }
 {
     [
-        (2 * (w[0] % 128)) ^ carry,
-        (2 * (w[1] % 128)) ^ (w[0] / 128),
-        (2 * (w[2] % 128)) ^ (w[1] / 128),
-        (2 * (w[3] % 128)) ^ (w[2] / 128),
+        (w[0] << 1) ^ carry,
+        (w[1] << 1) ^ (w[0] >> 7),
+        (w[2] << 1) ^ (w[1] >> 7),
+        (w[3] << 1) ^ (w[2] >> 7),
     ]
 }

@@ -1,24 +1,11 @@
-use mathlib.Core.Path.{◌≡◌, refl, sym, ap, ◌∙◌}
-use Prim.Native.Nat.{ℕ}
-use native.Mathlib.Omega.{arith}
-use lib.ListN.{take, length-set}
-use Rattle.aes_words.specs.Words.{in_fours}
-use Rattle.aes_words.proofs.FoursLaws.{next_four}
-use borrow.Author.Rules.{rules}
+-- `key_expansion::key_words` meets its contract.
+use Rattle.std.proofs.Common.{rules, ◌≡◌, length, ◌∙◌}
+use Rattle.std.proofs.Math.Seq.{take_at}
+use Rattle.aes_words.proofs.FoursLaws.{cut_in_fours}
 use Rattle.key_expansion.proofs.key_words.Goals as goal
-
-pub loop-i-init : goal.loop-i-init
-unfolding in_fours
-loop-i-init c = (search rules, refl, refl)
-
-pub loop-i-preserved : goal.loop-i-preserved
-loop-i-preserved c =
-    let loop = c.loop-i in
-    (search rules, length-set loop.words loop.i _ ∙ loop.invariant.1, next_four 0 _ loop.words loop.i (omega arith) (search rules) loop.invariant.2)
 
 pub returns : goal.returns
 returns c =
-    let loop = c.loop-i in
-    let key = c.args.key in
-    let last : loop.i ≡ 8 = omega arith in
-    ap (λ (n : ℕ). take n loop.words) (sym last) ∙ loop.invariant.2 ∙ ap (λ (n : ℕ). in_fours n key) last
+    let whole : length c.args.key ≡ 32 = search rules in
+    let eight : length c.copy_from_slice.new.self ≡ 8 = search rules in
+    take_at c.copy_from_slice.new.self _ 8 eight ∙ c.copy_from_slice.ensures.after ∙ c.as_chunks.ensures.front ∙ cut_in_fours 8 c.args.key whole

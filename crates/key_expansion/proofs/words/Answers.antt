@@ -10,16 +10,14 @@ use Rattle.key_expansion.proofs.words.Goals as goal
 
 pub loop-i-init : goal.loop-i-init
 unfolding grown
-loop-i-init c = (search rules, search rules, search rules, λ tables. refl)
+loop-i-init c = (search rules, λ tables. refl)
 
 pub loop-i-preserved : goal.loop-i-preserved
 loop-i-preserved c =
     let loop = c.loop-i in (
-      search rules,
-      search rules,
-      length-set loop.words loop.i c.add_word-word.result ∙ loop.invariant.2,
-      λ tables. next_word_lem _ loop.words loop.i c.add_word-word.result loop.invariant.0 (omega arith) (loop.invariant.3 tables)
-          (c.add_word-word.ensures ∙ ap (add_word _) (c.turn.ensures tables)),
+      length-set loop.words loop.i c.add_word.result ∙ loop.invariant.0,
+      λ tables. next_word_lem _ loop.words loop.i c.add_word.result (omega arith) (omega arith) (loop.invariant.1 tables)
+          (c.add_word.ensures ∙ ap (add_word _) (c.turn.ensures tables)),
     )
 
 pub returns : goal.returns
@@ -27,5 +25,5 @@ returns c tables =
     let loop = c.loop-i in
     let last : loop.i ≡ 60 = omega arith in
     sym (take_all loop.i loop.words (omega arith))
-    ∙ loop.invariant.3 tables
+    ∙ loop.invariant.1 tables
     ∙ ap₂ grown (ap (λ (n : ℕ). n - 8) last) c.key_words-words.ensures

@@ -1,15 +1,11 @@
--- `xts::convert` meets its contract.
-use mathlib.Core.Path.{ap, ap₂, ◌∙◌}
-use mathlib.Core.List.{List}
-use Rattle.aes_words.specs.Words.{Words}
-use Rattle.aes.specs.Cipher.{through_cipher}
-use Rattle.xts.specs.Units.{blocks_under, first_tweak, converted_by, converted}
+-- `xts::convert` meets its contract: a unit is a run of one.
+use Rattle.std.proofs.Common.{rules, ◌≡◌, length, ◌∙◌}
+use Rattle.xts.specs.Units.{converted}
+use Rattle.xts.proofs.UnitLaws.{one_unit}
 use Rattle.xts.proofs.convert.Goals as goal
 
 pub returns : goal.returns
-unfolding converted converted_by
 returns c =
     let a = c.args in
-    c.convert_unit.ensures
-    ∙ ap₂ (λ (ks : List Words) (t : Words). blocks_under (through_cipher a.direction ks) 32 t a.unit) c.data_keys-data.ensures
-    (c.first_tweak-tweak.ensures ∙ ap (λ (ks : List Words). first_tweak ks a.number) c.tweak_keys.ensures)
+    let whole : length a.unit ≡ 512 = search rules in
+    c.convert_units.ensures ∙ one_unit (converted a.direction a.key) a.number a.unit whole

@@ -1,5 +1,5 @@
 -- `aes_steps::steps::shift_rows` meets its contract.
-use mathlib.Core.Path.{refl}
+use Rattle.std.proofs.Common.{[], ◌∷◌}
 use Rattle.bits.specs.Bits.{entries}
 use Rattle.aes_steps.specs.Blocks.{byte_at, block, shift_rows}
 use Rattle.aes_words.specs.Words.{word}
@@ -7,4 +7,5 @@ use Rattle.aes_steps.proofs.steps.shift_rows.Goals as goal
 
 pub returns : goal.returns
 unfolding shift_rows block byte_at word entries
-returns c = refl
+returns c =
+    λ i. c.diagonal.ensures i ∷ c.diagonal-2.ensures i ∷ c.diagonal-3.ensures i ∷ c.diagonal-4.ensures i ∷ []

@@ -1,21 +1,17 @@
 -- `xts::blocks::block_at` meets its contract.
-use mathlib.Core.Path.{◌≡◌, sym, ap, ◌∙◌}
-use Prim.Native.Nat.{ℕ, ◌+◌}
-use native.Mathlib.Omega.{arith}
-use mathlib.Core.List.{List, [], ◌∷◌}
-use lib.{ListN.{take, drop}, Seq.drop-drop}
+use Rattle.std.proofs.Common.{arith, ℕ, List, ◌≡◌, ◌+◌, ◌-◌, take, drop, ap, ◌∙◌}
+use Rattle.fields.proofs.OverlayLaws.{part_size}
 use Rattle.aes_words.specs.Words.{in_fours}
+use Rattle.aes_words.proofs.FoursLaws.{cut_in_fours, fours_of_part}
 use Rattle.xts.proofs.blocks.block_at.Goals as goal
 
 pub returns : goal.returns
-unfolding in_fours
 returns c =
     let bytes : List ℕ = c.args.bytes.now in
     let at = c.args.at in
-    let eight : at + 8 ≡ at + 4 + 4 = omega arith in
-    let twelve : at + 12 ≡ at + 8 + 4 = omega arith in
-    let second = sym (drop-drop 4 at bytes) in
-    let third = ap (λ (n : ℕ). drop n bytes) eight ∙ sym (drop-drop 4 (at + 4) bytes) ∙ ap (drop 4) second in
-    let fourth = ap (λ (n : ℕ). drop n bytes) twelve ∙ sym (drop-drop 4 (at + 8) bytes) ∙ ap (drop 4) third in
-    λ i. c.word_at.ensures i ∷ (c.word_at-2.ensures ∙ ap (take 4) second) i ∷ (c.word_at-3.ensures ∙ ap (take 4) third) i
-    ∷ (c.word_at-4.ensures ∙ ap (take 4) fourth) i ∷ []
+    let cut : at + 16 - at ≡ 16 = omega arith in
+    c.copy_from_slice.ensures.after
+    ∙ c.as_chunks.ensures.front
+    ∙ cut_in_fours 4 _ (part_size at 16 bytes c.requires)
+    ∙ ap (λ (n : ℕ). in_fours 4 (take n (drop at bytes))) cut
+    ∙ fours_of_part 4 (drop at bytes)

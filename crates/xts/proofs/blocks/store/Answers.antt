@@ -1,16 +1,13 @@
 -- `xts::blocks::store` meets its contract.
-use mathlib.Core.Path.{ap, ◌∙◌}
-use Prim.Native.Nat.{ℕ}
-use mathlib.Core.List.{List}
+use Rattle.std.proofs.Common.{ℕ, List, ap, ◌∙◌, length}
 use Rattle.fields.specs.Bytes.{overlay}
-use Rattle.copy.proofs.CopyLaws.{copied_fits}
-use borrow.Author.Rules.{rules}
+use Rattle.fields.proofs.OverlayLaws.{part_laid}
+use Rattle.xts.proofs.UnitLaws.{length_bytes_of}
 use Rattle.xts.proofs.blocks.store.Goals as goal
 
 pub returns : goal.returns
 returns c =
-    let bytes : List ℕ = c.args.bytes.now in
     let at = c.args.at in
-    c.lay.ensures
-    ∙ copied_fits at c.flat-content.result bytes (search rules)
-    ∙ ap (λ (l : List ℕ). overlay at l bytes) c.flat-content.ensures
+    let content : List ℕ = c.copy_from_slice.new.self in
+    let is = c.copy_from_slice.ensures.after ∙ c.flat.ensures in
+    part_laid at 16 content c.args.bytes.now (ap length is ∙ length_bytes_of c.args.block) ∙ ap (λ (bytes : List ℕ). overlay at bytes c.args.bytes.now) is

@@ -1,5 +1,0 @@
--- `boundary_units::decipher` meets its contract: what is stored is the converted unit.
-use Rattle.boundary_units.proofs.decipher.Goals as goal
-
-pub returns : goal.returns
-returns c = c.convert-result.ensures
