@@ -12,7 +12,7 @@ CALLS = 10
 # What is asked for on one view, and on two.
 REQUESTS = (READ, WRITE, WRITE, READ_EXTENT, WRITE_EXTENT, WRITE_EXTENT)
 MIXED_REQUESTS = (READ, WRITE, READ_PLAINTEXT, WRITE_PLAINTEXT, WRITE_PLAINTEXT)
-# As many sectors as crates/vectors/src/access.rt has a buffer for.
+# As many sectors as crates/vectors/src/accesses.rt has a buffer for.
 MAX_COUNT = 130
 
 

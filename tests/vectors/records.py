@@ -1,7 +1,7 @@
 """The one format of what the program `vectors` reads, a case as a record, and of what it must print, a case as a line.
 
-crates/vectors/src/input.rt reads it: parts, which are a length and so many bytes. A record is a body and then texts, one
-before each answer and one after the last. A body is numbers, what is asked for and the slot of a view first, and after
+streams.rt and body.rt of crates/vectors/src read it: parts, which are a length and so many bytes. A record is a body and
+then texts, one before each answer and one after the last. A body is numbers, what is asked for and the slot of a view first, and after
 them any bytes. Every number is eight bytes, big-endian.
 """
 from typing import NamedTuple

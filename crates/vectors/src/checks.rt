@@ -1,13 +1,15 @@
 // Records that ask for the checksum of what follows, or for a header's location by code and host size.
+use crate::body::Body;
+use crate::print::{Checksum, Told};
 use crate::streams::Streams;
-use crate::{input, print};
 use std::io;
 
-pub fn checksum(streams: &mut Streams, body: &[u8]) -> io::Result<()> {
-    print::checksum(streams, input::after(body, 2))
+pub fn checksum(streams: &mut Streams, body: Body) -> io::Result<()> {
+    streams.print(Checksum(body.rest()))
 }
 
-pub fn location(streams: &mut Streams, body: &[u8]) -> io::Result<()> {
-    let code = input::low_byte(body, 2);
-    print::numbered(streams, locations::locate(code, input::number(body, 3)))
+pub fn location(streams: &mut Streams, mut body: Body) -> io::Result<()> {
+    let code = u8::from_be_bytes(body.low_bytes());
+    let host_size = body.number();
+    streams.print(Told(locations::locate(code, host_size)))
 }

@@ -1,41 +1,35 @@
 // Records that ask for all that the sector map says of a number, taken as a user sector and as a host
 // sector: that number and a layout's.
+use crate::body::Body;
+use crate::print::{Hex, Told};
 use crate::streams::Streams;
-use crate::{input, print};
 use layout::Layout;
 use std::io;
-use tweaks::Tweak;
 
-pub fn run(streams: &mut Streams, body: &[u8]) -> io::Result<()> {
-    let sector = input::number(body, 2);
-    let layout = layout_from(input::after(body, 3));
-    print::number(streams, layout::is_sound(layout) as u64)?;
-    print::numbered(streams, sector_map::sector_count(layout))?;
-    print::numbered(streams, sector_map::host_sector(layout, sector))?;
-    print::numbered(streams, sector_map::user_sector(layout, sector))?;
-    print::numbered(streams, tweaks::tweak_number(layout, sector))?;
-    print_tweak(streams, tweaks::tweak_block(layout, sector))
+pub fn run(streams: &mut Streams, mut body: Body) -> io::Result<()> {
+    let sector = body.number();
+    let layout = layout_from(body);
+    streams.print(u64::from(layout::is_sound(layout)))?;
+    streams.print(Told(sector_map::sector_count(layout)))?;
+    streams.print(Told(sector_map::host_sector(layout, sector)))?;
+    streams.print(Told(sector_map::user_sector(layout, sector)))?;
+    streams.print(Told(tweaks::tweak_number(layout, sector)))?;
+    let tweak = tweaks::tweak_block(layout, sector);
+    streams.print(Told(tweak.number))?;
+    streams.print(Hex(&tweak.block))
 }
 
 // A layout from its numbers, in their order.
-fn layout_from(numbers: &[u8]) -> Layout {
+fn layout_from(mut numbers: Body) -> Layout {
     Layout {
-        host_size: input::number(numbers, 0),
-        kind: input::number(numbers, 1),
-        magic: input::number(numbers, 2),
-        version: input::number(numbers, 3),
-        min_program_version: input::number(numbers, 4),
-        data_start: input::number(numbers, 5),
-        data_size: input::number(numbers, 6),
-        candidate: input::number(numbers, 7),
-        sector_size: input::number(numbers, 8),
+        host_size: numbers.number(),
+        kind: numbers.number(),
+        magic: numbers.number(),
+        version: numbers.number(),
+        min_program_version: numbers.number(),
+        data_start: numbers.number(),
+        data_size: numbers.number(),
+        candidate: numbers.number(),
+        sector_size: numbers.number(),
     }
-}
-
-// The tweak's number, and the bytes of its block in their order.
-fn print_tweak(streams: &mut Streams, tweak: Tweak) -> io::Result<()> {
-    let number = tweak.number;
-    let block = tweak.block;
-    print::numbered(streams, number)?;
-    print::hex(streams, &block)
 }

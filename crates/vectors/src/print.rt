@@ -1,59 +1,67 @@
-// Answers, each with the next text before it.
-use crate::input;
-use crate::streams::Streams;
-use answers::Numbered;
-use std::io;
-use std::io::Write;
+// The forms in which answers are printed.
+use answers::Refusal;
+use std::fmt;
+use std::fmt::Display;
 
-pub fn number(streams: &mut Streams, number: u64) -> io::Result<()> {
-    input::copy_text(streams)?;
-    write!(streams.output, "{number}")
-}
+// What a call of the boundary answered: 0 where it accepts, or its refusal.
+#[derive(Clone, Copy)]
+pub struct Answer(pub u64);
 
-// What a call stored, or left.
-pub fn cell(streams: &mut Streams, cell: &[u64; 1]) -> io::Result<()> {
-    number(streams, cell[0])
-}
-
-// Each number with a space before it.
-pub fn numbers(streams: &mut Streams, list: &[u64]) -> io::Result<()> {
-    input::copy_text(streams)?;
-    for number in list {
-        write!(streams.output, " {number}")?;
-    }
-    Ok(())
-}
-
-// Bytes in their order, eight at a time.
-pub fn hex(streams: &mut Streams, bytes: &[u8]) -> io::Result<()> {
-    input::copy_text(streams)?;
-    for place in 0..bytes.len() / input::NUMBER_SIZE {
-        let number = input::number(bytes, place);
-        write!(streams.output, "{number:016x}")?;
-    }
-    Ok(())
-}
-
-pub fn checksum(streams: &mut Streams, bytes: &[u8]) -> io::Result<()> {
-    input::copy_text(streams)?;
-    let checksum = ondristela::ondristela_crc32(bytes);
-    write!(streams.output, "{checksum:08x}")
-}
-
-// What a call of the boundary answered.
-pub fn answer(streams: &mut Streams, refusal: u64) -> io::Result<()> {
-    input::copy_text(streams)?;
-    if refusal == 0 {
-        write!(streams.output, "accepted")
-    } else {
-        write!(streams.output, "refused {refusal}")
+impl Display for Answer {
+    fn fmt<W: fmt::Write>(&self, f: &mut fmt::Formatter<W>) -> fmt::Result {
+        match self.0 {
+            0 => f.write_str("accepted"),
+            refusal => write!(f, "refused {refusal}"),
+        }
     }
 }
 
 // The number of an answer of the library, or its refusal.
-pub fn numbered(streams: &mut Streams, numbered: Numbered) -> io::Result<()> {
-    match numbered {
-        Numbered::Number(told) => number(streams, told),
-        Numbered::Refused(refusal) => answer(streams, refusal as u64),
+#[derive(Clone, Copy)]
+pub struct Told(pub Result<u64, Refusal>);
+
+impl Display for Told {
+    fn fmt<W: fmt::Write>(&self, f: &mut fmt::Formatter<W>) -> fmt::Result {
+        match self.0 {
+            Ok(told) => write!(f, "{told}"),
+            Err(refusal) => write!(f, "{}", Answer(u64::from(refusal.number))),
+        }
+    }
+}
+
+// Each number with a space before it.
+#[derive(Clone, Copy)]
+pub struct Numbers<'a>(pub &'a [u64]);
+
+impl<'a> Display for Numbers<'a> {
+    fn fmt<W: fmt::Write>(&self, f: &mut fmt::Formatter<W>) -> fmt::Result {
+        for number in self.0 {
+            write!(f, " {number}")?;
+        }
+        Ok(())
+    }
+}
+
+// Bytes in their order.
+#[derive(Clone, Copy)]
+pub struct Hex<'a>(pub &'a [u8]);
+
+impl<'a> Display for Hex<'a> {
+    fn fmt<W: fmt::Write>(&self, f: &mut fmt::Formatter<W>) -> fmt::Result {
+        for byte in self.0 {
+            write!(f, "{byte:02x}")?;
+        }
+        Ok(())
+    }
+}
+
+// The checksum of bytes.
+#[derive(Clone, Copy)]
+pub struct Checksum<'a>(pub &'a [u8]);
+
+impl<'a> Display for Checksum<'a> {
+    fn fmt<W: fmt::Write>(&self, f: &mut fmt::Formatter<W>) -> fmt::Result {
+        let checksum = ondristela::ondristela_crc32(self.0);
+        write!(f, "{checksum:08x}")
     }
 }
