@@ -5,12 +5,13 @@ use native.Mathlib.Omega.{arith}
 use native.Mathlib.Nat.{add-sub_cancel_left, zero-add}
 use mathlib.Core.{Path.{◌≡◌, refl, ap, ◌∙◌}, Bool.false, List.{List, append-nil}}
 use lib.{ListN.{length, take, drop, drop_of_length-le, length-drop}, Seq.length-take-le}
-use Rattle.answers.specs.{Answers.is_accepted, declared.Answer.{Answer, TheVariants.Accepted}}
+use Rattle.answers.specs.Answers.{is_accepted, Answer}
 use Rattle.fields.specs.Bytes.{overlay}
 use Rattle.copy.{specs.Copy.copied, proofs.CopyLaws.copied_fits}
 use Rattle.layout.specs.{Rules.sector_bytes, declared.Layout.Layout}
 use Rattle.judgement.specs.Offsets.{extent_start}
 use Rattle.access.specs.Moving.{filled_by, written_by}
+use Rattle.std.specs.Prelude.{Ok, ⊤}
 
 -- a part of an image that starts at an offset
 part_length : (image : List ℕ) (size offset : ℕ) → offset + size ≤ length image → length (take size (drop offset image)) ≡ size
@@ -30,8 +31,8 @@ copy_out image buffer offset fits =
     ∙ copied_fits 0 part buffer (omega (arith, size))
     ∙ rw (zero-add, drop_of_length-le buffer none, append-nil) refl
 
-module _ (answer : Answer) (layout : Layout) (image : List ℕ) (first : ℕ) (buffer : List ℕ) where
-  pub filled_accepted : (count start : ℕ) → answer ≡ Accepted → start ≡ extent_start layout first → length buffer ≡ count * sector_bytes
+module _ (answer : Answer ⊤) (layout : Layout) (image : List ℕ) (first : ℕ) (buffer : List ℕ) where
+  pub filled_accepted : (count start : ℕ) → answer ≡ Ok tt → start ≡ extent_start layout first → length buffer ≡ count * sector_bytes
       → take (length buffer) (drop start image) ≡ filled_by answer layout image first count buffer
   unfolding filled_by is_accepted
   filled_accepted count start e at whole = rw (e, at, whole)
@@ -40,7 +41,7 @@ module _ (answer : Answer) (layout : Layout) (image : List ℕ) (first : ℕ) (b
   unfolding filled_by
   filled_refused count e = rw e
 
-  pub written_accepted : (start : ℕ) → answer ≡ Accepted → start ≡ extent_start layout first
+  pub written_accepted : (start : ℕ) → answer ≡ Ok tt → start ≡ extent_start layout first
       → overlay start buffer image ≡ written_by answer layout image first buffer
   unfolding written_by is_accepted
   written_accepted start e at = rw (e, at)

@@ -1,5 +1,6 @@
 // Reads and writes of a volume's sectors in its host's image: each is judged, and an accepted one moves its
-// bytes. Data is already enciphered.
+// bytes. Data is already enciphered. What is protected and the lock are a view's, and passed with the layout, since
+// `View` stands above.
 // Assumes nothing; no public function has a `requires`.
 #![tactic(auto)]
 
@@ -8,7 +9,7 @@ ghost use Rattle.fields.specs.Bytes.{overlay};
 ghost use Rattle.judgement.specs.Judging.{read_answer, write_answer};
 ghost use Rattle.access.specs.Moving.{filled_by, written_by};
 
-use answers::{Answer, Placement};
+use answers::Refusal;
 use layout::Layout;
 use protection::Protection;
 
@@ -21,27 +22,21 @@ pub fn read(
     first: u64,
     count: u64,
     buffer: &mut [u8],
-) -> Answer
+) -> Result<(), Refusal>
     ensures value { result ≡ read_answer layout protection (length image.now) first count (length buffer.old) }
     ensures buffer_after { buffer.new ≡ filled_by result layout image.now first count buffer.old }
 {
     let image_size = image.len() as u64;
-    let placement = judgement::read_extent(
+    let start = judgement::read_extent(
         layout,
         protection,
         image_size,
         first,
         count,
         buffer.len() as u64,
-    );
-    match placement {
-        Placement::Offset(start) => {
-            fill(image, start, buffer);
-            Answer::Accepted
-        }
-        Placement::Refused(number) => Answer::Refused(number),
-        Placement::RefusedAt(number, sector) => Answer::RefusedAt(number, sector),
-    }
+    )?;
+    fill(image, start, buffer);
+    Ok(())
 }
 
 // Copies the buffer into the image's sectors, from user sector first on. A refusal leaves the image as
@@ -54,13 +49,13 @@ pub fn write(
     first: u64,
     count: u64,
     buffer: &[u8],
-) -> Answer
+) -> Result<(), Refusal>
     ensures value { result ≡ write_answer layout protection locked (length image.old) first count (length buffer.now) }
     ensures image_after { image.new ≡ written_by result layout image.old first buffer.now }
 {
     let image_size = image.len() as u64;
     let buffer_size = buffer.len() as u64;
-    let placement = judgement::write_extent(
+    let start = judgement::write_extent(
         layout,
         protection,
         locked,
@@ -68,15 +63,9 @@ pub fn write(
         first,
         count,
         buffer_size,
-    );
-    match placement {
-        Placement::Offset(start) => {
-            lay(image, start, buffer);
-            Answer::Accepted
-        }
-        Placement::Refused(number) => Answer::Refused(number),
-        Placement::RefusedAt(number, sector) => Answer::RefusedAt(number, sector),
-    }
+    )?;
+    lay(image, start, buffer);
+    Ok(())
 }
 
 // The image's bytes from an offset on, as many as the buffer has.

@@ -8,7 +8,7 @@ use Rattle.layout.specs.Rules.{multiple}
 use Rattle.fields.specs.Bytes.{overlay}
 use Rattle.access.specs.Moving.{filled_by, written_by}
 use Rattle.judgement.proofs.JudgingLaws.{Passed, read_passed, write_passed}
-use Rattle.answers.specs.{Answers.is_accepted, declared.Answer.{Answer, TheVariants.{Accepted, Refused, RefusedAt}}}
+use Rattle.answers.specs.Answers.{is_accepted, Answer, refuse}
 use Rattle.sector_map.specs.SectorMap.{sectors, first_sector}
 use Rattle.view.specs.{Outcomes.after, declared.View.View}
 use Rattle.xts.specs.Runs.{in_units}
@@ -24,19 +24,19 @@ use Rattle.header_claims.proofs.Reflects.{holds_true, is_true, is_false}
 use Rattle.access_claims.proofs.TableLaws.{lock_left_lem}
 use Rattle.access_claims.proofs.ViewLaws.{view_reflects}
 use Rattle.access_claims.proofs.WalkLaws.{end_tabled}
+use Rattle.std.specs.Prelude.{Ok, Err, ⊤}
 
 -- what an acceptance leaves is alike where an acceptance says so
-accepted_alike : (answer : Answer) (x y other : List ℕ) → (answer ≡ Accepted → x ≡ y) → cond (is_accepted answer) x other ≡ cond (is_accepted answer) y other
+accepted_alike : (answer : Answer ⊤) (x y other : List ℕ) → (answer ≡ Ok tt → x ≡ y) → cond (is_accepted answer) x other ≡ cond (is_accepted answer) y other
 unfolding is_accepted
-accepted_alike Accepted x y other same = same refl
-accepted_alike (Refused number) x y other same = refl
-accepted_alike (RefusedAt number sector) x y other same = refl
+accepted_alike (Ok done) x y other same = same refl
+accepted_alike (Err refusal) x y other same = refl
 
 module _ (view : View) (image : List ℕ) (first count : ℕ) (buffer : List ℕ) where
-  abbrev reading : Answer
+  abbrev reading : Answer ⊤
   reading = read_by view image first count buffer
 
-  abbrev writing : Answer
+  abbrev writing : Answer ⊤
   writing = write_by view image first count buffer
 
   -- the first host sector of the extent, and its first byte
@@ -80,11 +80,11 @@ module _ (view : View) (image : List ℕ) (first count : ℕ) (buffer : List ℕ
   written_raw key size = in_units_given count host buffer ∙ take_all (count * 512) buffer (omega arith)
 
   -- the checks of the lengths and of whole sectors, and then the rest
-  abbrev sizes_checked : Answer → Answer
+  abbrev sizes_checked : Answer ⊤ → Answer ⊤
   sizes_checked rest =
-      check (Refused 13) (eqb (length image) view.layout.host_size)
-      (check (Refused 14) (leb count 128)
-      (check (Refused 15) (eqb (length buffer) (count * 512)) (check (Refused 20) (alignment_rule view.layout first count) rest)))
+      check (refuse 13) (eqb (length image) view.layout.host_size)
+      (check (refuse 14) (leb count 128)
+      (check (refuse 15) (eqb (length buffer) (count * 512)) (check (refuse 20) (alignment_rule view.layout first count) rest)))
 
   pub accesses_by_table : AccessesByTable view image first count buffer
   unfolding read_answer write_answer checked alignment_rule multiple is_whole tabled later sectors after filled_by written_by view_rules
@@ -95,7 +95,7 @@ module _ (view : View) (image : List ℕ) (first count : ℕ) (buffer : List ℕ
         unsound_read = λ f. rw (is_false reflects f);
         unsound_write = λ f. rw (is_false reflects f);
         read_tabled = λ key s.
-            rw (is_true reflects s) (ap sizes_checked (end_tabled layout s.layout_sound first count Accepted Accepted (λ inside. refl)));
+            rw (is_true reflects s) (ap sizes_checked (end_tabled layout s.layout_sound first count (Ok tt) (Ok tt) (λ inside. refl)));
         write_tabled = λ key s.
             rw (is_true reflects s)
             (ap sizes_checked (end_tabled layout s.layout_sound first count _ _ λ inside.

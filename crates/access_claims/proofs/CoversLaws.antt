@@ -8,9 +8,9 @@ use lib.ListN.{length}
 use borrow.Author.Tests.{lt-ltb}
 use Rattle.layout.specs.{Rules.sound, declared.Layout.Layout}
 use Rattle.sector_map.specs.SectorMap.{sectors, first_sector, host_sector}
-use Rattle.answers.specs.declared.Numbered.TheVariants.{Number}
 use Rattle.model.proofs.Lawful.{Every, Distinct}
 use Rattle.access_claims.specs.Table.{with_host, covers}
+use Rattle.std.specs.Prelude.{Ok}
 
 -- so many numbers, from one on
 unfoldable pub consecutive : ℕ → ℕ → List ℕ
@@ -36,7 +36,7 @@ distinct_consecutive first (suc count) =
     (every_consecutive (λ other. first ≡ other → ⊥) (suc first) count (λ host h k e. omega arith), distinct_consecutive (suc first) count)
 
 module _ (layout : Layout) (kept : sound layout ≡ true) where
-  pub host_sector_inside : (user : ℕ) → user < sectors layout → host_sector layout user ≡ Number (first_sector layout + user)
+  pub host_sector_inside : (user : ℕ) → user < sectors layout → host_sector layout user ≡ Ok (first_sector layout + user)
   unfolding host_sector
   host_sector_inside user h = simp (kept, lt-ltb user (sectors layout) h)
 

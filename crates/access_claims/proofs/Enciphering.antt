@@ -10,7 +10,6 @@ use Rattle.aes_mixing.proofs.FieldLaws.{product_1, product_sum}
 use Rattle.numbers.specs.Numbers.{little_endian}
 use Rattle.numbers.proofs.WrittenLaws.{little_endian_bytes_pad}
 use Rattle.aes.specs.declared.Direction.TheVariants.{Encipher, Decipher}
-use Rattle.answers.specs.declared.Numbered.TheVariants.{Number}
 use Rattle.layout.specs.declared.Layout.{Layout}
 use Rattle.judgement.specs.Offsets.{extent_start}
 use Rattle.sector_map.specs.SectorMap.{first_sector, host_sector}
@@ -23,6 +22,7 @@ use Rattle.access_claims.specs.Enciphering.{KeepsField, EnciphersExactly, Spells
 use Rattle.header_claims.specs.SectorMap.{Sound}
 use Rattle.header_claims.proofs.BlockLaws.{block_of_number}
 use Rattle.header_claims.proofs.MapLaws.{number_says, host_sector_answers, host_sector_in_area}
+use Rattle.std.specs.Prelude.{Ok}
 
 -- a doubling, at every byte
 doubles : (a : ℕ) → a < 256 → product 2 a ≡ cond (leb 128 a) (bit_xor (a * 2) 0x11B) (a * 2)
@@ -51,7 +51,7 @@ enciphers_exactly key number unit =
       deciphered_sized = length_converted Decipher key number unit;
     }
 
-tweak_block : (number : ℕ) → number < 2 ^ 64 → tweak_bytes number ≡ block_of (Number number)
+tweak_block : (number : ℕ) → number < 2 ^ 64 → tweak_bytes number ≡ block_of (Ok number)
 unfolding tweak_bytes block_of
 tweak_block number small = little_endian_bytes_pad 8 8 number small
 
@@ -67,7 +67,7 @@ spells_tweaks number other =
     }
 
 -- a volume's host sectors have numbers of 64 bits
-host_small : (layout : Layout) → Sound layout → (user host : ℕ) → host_sector layout user ≡ Number host → host < 2 ^ 64
+host_small : (layout : Layout) → Sound layout → (user host : ℕ) → host_sector layout user ≡ Ok host → host < 2 ^ 64
 host_small layout s user host e = omega (arith, host_sector_in_area layout s user host e)
 
 pub tweaks_sectors : (layout : Layout) → TweaksSectors layout

@@ -4,10 +4,12 @@ use native.Mathlib.Omega.{arith}
 use mathlib.Core.{Path.{◌≡◌, refl, sym, subst, ap, ◌∙◌}, Logic.{inl, inr, ⊎_elim}, Bool.{Bool, true, false, cond}}
 use lib.Dec.{ltb}
 use borrow.Author.Tests.{lt-leb, ltb-true, ltb-false}
-use Rattle.extent.specs.{Extents.{larger, overlap, beyond}, declared.{Extent.Extent, Overlap.{Overlap, TheVariants.{Apart, From}}}}
+use Rattle.extent.specs.Extents.{larger, overlap, beyond}
+use Rattle.extent.specs.declared.Extent.{Extent}
 use Rattle.extent.proofs.OverlapLaws.{In, Shared, none, least, overlap_shared, beyond_apart, apart_beyond}
 use Rattle.access_claims.specs.{Extents.{Within, SharesLeast, IsFirstPast, EndsBy}, InTheWay.IsLarger}
 use Rattle.header_claims.proofs.Reflects.{Reflects, holds, fails, reflects_eqb}
+use Rattle.std.specs.Prelude.{Some, None, Option}
 
 pub within : (extent : Extent) (sector : ℕ) → In extent sector → Within extent sector
 within extent sector i = record { starts = i.starts; ends = i.ends }
@@ -20,22 +22,22 @@ module _ (a b : Extent) where
   abbrev Least : ℕ → Type 0
   Least sector = Within a sector × Within b sector × ((other : ℕ) → Within a other → Within b other → sector ≤ other)
 
-  shared_least : (sector : ℕ) → Shared a b (From sector) → Least sector
+  shared_least : (sector : ℕ) → Shared a b (Some sector) → Least sector
   shared_least sector (least _ p q l) = (within a sector p, within b sector q, λ other v w. l other (inside a other v) (inside b other w))
 
-  shared_apart : Shared a b Apart → (sector : ℕ) → Within a sector → Within b sector → ⊥
+  shared_apart : Shared a b None → (sector : ℕ) → Within a sector → Within b sector → ⊥
   shared_apart (none f) sector v w = f sector (inside a sector v) (inside b sector w)
 
-  least_shared : (told : Overlap) → Shared a b told → (sector : ℕ) → Least sector → told ≡ From sector
-  least_shared Apart (none f) sector l = absurd (f sector (inside a sector l.0) (inside b sector l.1))
-  least_shared (From first) (least _ p q k) sector l =
+  least_shared : (told : Option ℕ) → Shared a b told → (sector : ℕ) → Least sector → told ≡ Some sector
+  least_shared None (none f) sector l = absurd (f sector (inside a sector l.0) (inside b sector l.1))
+  least_shared (Some first) (least _ p q k) sector l =
       let same : first ≡ sector =
       omega (arith, k sector (inside a sector l.0) (inside b sector l.1), l.2 first (within a first p) (within b first q)) in
-      ap From same
+      ap Some same
 
-  apart_shared : (told : Overlap) → Shared a b told → ((sector : ℕ) → Within a sector → Within b sector → ⊥) → told ≡ Apart
-  apart_shared Apart s f = refl
-  apart_shared (From first) (least _ p q k) f = absurd (f first (within a first p) (within b first q))
+  apart_shared : (told : Option ℕ) → Shared a b told → ((sector : ℕ) → Within a sector → Within b sector → ⊥) → told ≡ None
+  apart_shared None s f = refl
+  apart_shared (Some first) (least _ p q k) f = absurd (f first (within a first p) (within b first q))
 
   pub shares_least : SharesLeast a b
   shares_least =
@@ -54,17 +56,17 @@ larger_is a b = go (ltb a b) refl
     go false e = record { at_least_first = omega arith; at_least_second = omega (arith, ltb-false a b e); one_of_them = inl refl }
 
 -- the sector that is told
-told : Overlap → ℕ
-told Apart = 0
-told (From sector) = sector
+told : Option ℕ → ℕ
+told None = 0
+told (Some sector) = sector
 
-from_injective : {a b : ℕ} → From a ≡ From b → a ≡ b
+from_injective : {a b : ℕ} → Some a ≡ Some b → a ≡ b
 unfolding told
 from_injective e = ap told e
 
 module _ (extent : Extent) (end : ℕ) where
   -- what is told where the extent goes past the end
-  told_past : end < extent.first + extent.count → beyond extent end ≡ From (larger extent.first end)
+  told_past : end < extent.first + extent.count → beyond extent end ≡ Some (larger extent.first end)
   unfolding beyond
   told_past past = simp (lt-leb (extent.first + extent.count) end past)
 
@@ -94,6 +96,6 @@ module _ (extent : Extent) (end : ℕ) where
         inside = (beyond_apart extent end, apart_beyond extent end);
         past = λ past sector. (
           λ e. subst (IsFirstPast extent end) (from_injective (sym (told_past past) ∙ e)) (first_past past),
-          λ f. told_past past ∙ ap From (one_past (larger extent.first end) sector past (first_past past) f),
+          λ f. told_past past ∙ ap Some (one_past (larger extent.first end) sector past (first_past past) f),
         );
       }

@@ -9,7 +9,7 @@ use Rattle.judgement.specs.Judging.{alignment_rule}
 use Rattle.judgement.specs.Offsets.{extent_start, placed_by}
 use Rattle.layout.specs.{Rules.multiple, declared.Layout.Layout}
 use Rattle.layout.proofs.SectorSizeLaws.{multiple_in_sectors}
-use Rattle.protection.specs.{Protection.{sound_protection, protected_extent}, declared.Protection.Protection}
+use Rattle.protection.specs.Protection.{sound_protection, protected_extent}
 use Rattle.pairing.specs.Pairs.{paired}
 use Rattle.header_claims.specs.{Header.Multiple, SectorMap.{Sound, InArea}}
 use Rattle.access_claims.specs.{Parts.KeepsParts, ReferenceModel.in_range, Views.area}
@@ -21,6 +21,7 @@ use Rattle.header_claims.proofs.RuleReflections.{multiple_reflects, sector_size_
 use Rattle.header_claims.proofs.SoundLaws.{sound_reflects, sound_on_sectors}
 use Rattle.access_claims.proofs.TableLaws.{lock_left_lem}
 use Rattle.access_claims.proofs.ViewLaws.{range_reflects}
+use Rattle.protection.specs.Protection.{Protection}
 
 -- a sector lies in a data area as a range exactly where its bytes do
 area_reflects : (layout : Layout) (s : Sound layout) (host : ℕ) → Reflects (InArea layout host) (in_range (area layout) host)

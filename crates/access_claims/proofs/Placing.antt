@@ -3,11 +3,11 @@ use Prim.Native.Nat.{ℕ, ◌*◌}
 use native.Mathlib.Omega.{arith}
 use mathlib.Core.{Path.{◌≡◌, refl, sym, ap, ◌∙◌}, Bool.{true, false}, List.List}
 use lib.{Dec.eqb, ListN.{length, take, drop}}
-use Rattle.answers.specs.{Answers.{is_accepted, answer_refusal}, declared.Answer.{Answer, TheVariants.{Accepted, Refused, RefusedAt}}}
+use Rattle.answers.specs.Answers.{is_accepted, Answer, refuse, refuse_at, refusal_number}
 use Rattle.layout.specs.declared.Layout.{Layout}
 use Rattle.judgement.specs.Offsets.{extent_start, placed_by}
 use Rattle.judgement.proofs.JudgingLaws.{read_passed, write_passed, passed_ends, names_sector, names_some, read_holds, write_holds}
-use Rattle.judgement.proofs.PlacementLaws.{placed_accepted, placed_refused, placed_refused_at, refused_placed, refused_at_placed}
+use Rattle.judgement.proofs.PlacementLaws.{placed_accepted, placed_refused, placed_refused, refused_placed, refused_placed}
 use Rattle.fields.specs.Bytes.{overlay}
 use Rattle.access.specs.Moving.{filled_by, written_by}
 use Rattle.access.proofs.MovingLaws.{filled_accepted, written_accepted}
@@ -16,6 +16,7 @@ use Rattle.boundary_numbers.specs.BoundaryNumbers.{view_from}
 use Rattle.boundary_extents.specs.BoundaryExtents.{offset_left}
 use Rattle.access_claims.specs.Placing.{taken, stored, PlacesExtents, PlacesNumbers}
 use Rattle.access_claims.proofs.TableLaws.{lock_left_lem}
+use Rattle.std.specs.Prelude.{Ok, ⊤}
 
 pub places_extents : (view : View) (image : List ℕ) (first count : ℕ) (buffer : List ℕ) → PlacesExtents view image first count buffer
 unfolding read_placed write_placed after extent_start overlay
@@ -23,9 +24,9 @@ places_extents view image first count buffer =
     let layout = view.layout in
     record {
       read_refused = λ number. (placed_refused layout first refl, λ e. sym (refused_placed layout first e));
-      read_refused_at = λ number sector. (placed_refused_at layout first refl, λ e. sym (refused_at_placed layout first e));
+      read_refused_at = λ number sector. (placed_refused layout first refl, λ e. sym (refused_placed layout first e));
       write_refused = λ number. (placed_refused layout first refl, λ e. sym (refused_placed layout first e));
-      write_refused_at = λ number sector. (placed_refused_at layout first refl, λ e. sym (refused_at_placed layout first e));
+      write_refused_at = λ number sector. (placed_refused layout first refl, λ e. sym (refused_placed layout first e));
       read_taken = λ offset e.
           let given = placed_accepted layout first refl e in
           let passed = read_passed _ _ _ _ _ _ refl given.0 in (
@@ -45,18 +46,18 @@ places_extents view image first count buffer =
 -- what a number and an offset tell of an answer
 module _ (layout : Layout) (image : List ℕ) (first : ℕ) (buffer before : List ℕ) where
   -- the offset that an answer leaves
-  abbrev leaves : Answer → List ℕ
+  abbrev leaves : Answer ⊤ → List ℕ
   leaves answer = offset_left (placed_by answer layout first) before
 
   -- moved by the number and the offset, the bytes are those that the call moves, and a refusal leaves the offset
-  record Moves (count : ℕ) (answer : Answer) : Type 0 where
-    takes : (answer ≡ Accepted → length buffer ≡ count * 512)
-        → taken (answer_refusal answer) (leaves answer) image buffer ≡ filled_by answer layout image first count buffer
-    stores : stored (answer_refusal answer) (leaves answer) image buffer ≡ written_by answer layout image first buffer
-    same : (answer_refusal answer ≡ 0 → ⊥) → leaves answer ≡ before
+  record Moves (count : ℕ) (answer : Answer ⊤) : Type 0 where
+    takes : (answer ≡ Ok tt → length buffer ≡ count * 512)
+        → taken (refusal_number answer) (leaves answer) image buffer ≡ filled_by answer layout image first count buffer
+    stores : stored (refusal_number answer) (leaves answer) image buffer ≡ written_by answer layout image first buffer
+    same : (refusal_number answer ≡ 0 → ⊥) → leaves answer ≡ before
 
-  moves_accepted : (count : ℕ) → Moves count Accepted
-  unfolding taken stored offset_left placed_by filled_by written_by is_accepted answer_refusal overlay
+  moves_accepted : (count : ℕ) → Moves count (Ok tt)
+  unfolding taken stored offset_left placed_by filled_by written_by is_accepted refusal_number overlay
   moves_accepted count =
       record {
         takes = λ whole. ap (λ (n : ℕ). take n (drop (extent_start layout first) image)) (whole refl);
@@ -64,12 +65,12 @@ module _ (layout : Layout) (image : List ℕ) (first : ℕ) (buffer before : Lis
         same = λ f. absurd (f refl);
       }
 
-  moves_refused : (count number : ℕ) → eqb number 0 ≡ false → names_sector number ≡ false → Moves count (Refused number)
-  unfolding taken stored offset_left placed_by filled_by written_by is_accepted answer_refusal
+  moves_refused : (count number : ℕ) → eqb number 0 ≡ false → names_sector number ≡ false → Moves count (refuse number)
+  unfolding taken stored offset_left placed_by filled_by written_by is_accepted refusal_number
   moves_refused count number some other = record { takes = λ whole. rw some; stores = rw some; same = λ f. refl }
 
-  moves_refused_at : (count number sector : ℕ) → names_sector number ≡ true → Moves count (RefusedAt number sector)
-  unfolding taken stored offset_left placed_by filled_by written_by is_accepted answer_refusal
+  moves_refused_at : (count number sector : ℕ) → names_sector number ≡ true → Moves count (refuse_at number sector)
+  unfolding taken stored offset_left placed_by filled_by written_by is_accepted refusal_number
   moves_refused_at count number sector names =
       let some = names_some number names in record { takes = λ whole. rw some; stores = rw some; same = λ f. refl }
 

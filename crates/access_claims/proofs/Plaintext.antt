@@ -6,7 +6,7 @@ use mathlib.Core.{Path.{◌≡◌, refl, sym, ap, ◌∙◌}, Bool.Bool, List.Li
 use lib.ListN.{length}
 use Rattle.fields.specs.Bytes.{overlay}
 use Rattle.fields.proofs.OverlayLaws.{length_overlay, part_overlay}
-use Rattle.answers.specs.{Answers.is_accepted, declared.Answer.TheVariants.Accepted}
+use Rattle.answers.specs.Answers.{is_accepted}
 use Rattle.sector_map.specs.SectorMap.{first_sector}
 use Rattle.judgement.specs.{Judging.read_answer, Offsets.extent_start}
 use Rattle.judgement.proofs.JudgingLaws.{Passed, write_passed, passed_ends, checked_passed}
@@ -21,6 +21,7 @@ use Rattle.access_claims.specs.ReferenceModel.{stored_as, shown_as, view_rules}
 use Rattle.access_claims.specs.Table.{plaintext, tabled}
 use Rattle.access_claims.proofs.Access.{filled_in, written_in, accesses_by_table}
 use Rattle.access_claims.proofs.TableLaws.{lock_left_lem}
+use Rattle.std.specs.Prelude.{Ok}
 
 pub plaintext_by_table : (keyed : KeyedView) (image : List ℕ) (first count : ℕ) (buffer : List ℕ) → PlaintextByTable keyed image first count buffer
 unfolding plain_filled_by plain_written_by stored_as shown_as view_rules tabled after
@@ -77,7 +78,7 @@ gives_back keyed image first count buffer =
             inside = p.inside;
           } in
           rw accepted (
-            sym (checked_passed layout protection (length (overlay start stored image)) first count (length room) passed Accepted),
+            sym (checked_passed layout protection (length (overlay start stored image)) first count (length room) passed (Ok tt)),
             ap (in_units (deciphered key) count host) (part_overlay start (count * 512) stored image size (omega (arith, size, fits)))
                 ∙ run_deciphered_enciphered key count host buffer k.each p.buffer_whole bytes,
           );

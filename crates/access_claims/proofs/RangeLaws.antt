@@ -3,14 +3,12 @@
 use Prim.Native.Nat.{ℕ, zero, suc, ◌+◌, ◌-◌, ◌*◌, ◌/◌, ◌≤◌, ◌<◌}
 use native.Mathlib.Omega.{arith}
 use mathlib.Core.{Path.{◌≡◌, refl, ap}, Bool.{Bool, true, false, not, cond, true≢false}, List.List}
-use Rattle.answers.specs.{Answers.{Naming, unnamed, named}, declared.{Answer.{Answer, TheVariants.{Accepted, Refused, RefusedAt}}, Numbered.Numbered}}
-use Rattle.answers.specs.declared.Numbered.TheVariants as numbered
-use Rattle.extent.specs.declared.{Extent.Extent, Overlap.Overlap}
+use Rattle.extent.specs.declared.Extent.{Extent}
 use Rattle.extent.proofs.OverlapLaws.{In, Shared, none, least, overlap_shared}
 use Rattle.judgement.specs.Judging.{blocked_by, lock_answer}
 use Rattle.layout.specs.declared.Layout.{Layout}
 use Rattle.sector_map.specs.SectorMap.{sectors, host_sector}
-use Rattle.protection.specs.{Protection.protected_extent, declared.Protection.{Protection, TheVariants.{Unprotected, Protected}}}
+use Rattle.protection.specs.Protection.{protected_extent}
 use Rattle.model.proofs.Lawful.{Every}
 use Rattle.access_claims.specs.ReferenceModel.{in_range, is_protected, first_protected}
 use Rattle.header_claims.specs.SectorMap.{Sound}
@@ -19,38 +17,41 @@ use Rattle.header_claims.proofs.MapLaws.{number_says, is_number, host_sector_ans
 use Rattle.header_claims.proofs.Reflects.{Reflects, fails, holds_true, reflects_map, reflects_and, reflects_leb}
 use Rattle.header_claims.proofs.SoundLaws.{sound_on_sectors}
 use Rattle.access_claims.proofs.WalkLaws.{refutes, Walked, none_found, found_at, first_of_walked}
+use Rattle.std.specs.Prelude.{Ok, Err, Some, None, Option, ⊤}
+use Rattle.answers.specs.Answers.{Answer, refuse, refuse_at}
+use Rattle.protection.specs.Protection.{Protection}
 
-is_named : Naming → Bool
-is_named unnamed = false
-is_named (named sector) = true
+is_named : Option ℕ → Bool
+is_named None = false
+is_named (Some sector) = true
 
-named_unnamed : {A : Type 0} (sector : ℕ) → named sector ≡ unnamed → A
+named_unnamed : {A : Type 0} (sector : ℕ) → Some sector ≡ None → A
 unfolding is_named
 named_unnamed sector e = absurd (true≢false (ap is_named e))
 
 -- where the walk finds no protected sector, no host sector of the extent lies in the range
-pub each_outside : (layout : Layout) (protection : Protection) (first count : ℕ) → first_protected layout protection first count ≡ unnamed
+pub each_outside : (layout : Layout) (protection : Protection) (first count : ℕ) → first_protected layout protection first count ≡ None
     → Every (λ host. in_range protection host ≡ false) (covers layout first count)
 unfolding first_protected first_of covers is_protected with_host
 each_outside layout protection first zero e = tt
 each_outside layout protection first (suc count) e = go (host_sector layout first) _ _ e (each_outside layout protection (suc first) count)
   where
-    test : (t : Bool) (rest : Naming) → cond t (named first) rest ≡ unnamed → (t ≡ false) × (rest ≡ unnamed)
+    test : (t : Bool) (rest : Option ℕ) → cond t (Some first) rest ≡ None → (t ≡ false) × (rest ≡ None)
     test true rest f = named_unnamed first f
     test false rest f = (refl, f)
 
-    go : (mapped : Numbered) (rest : Naming) (hosts : List ℕ) → cond (is_protected protection mapped) (named first) rest ≡ unnamed
-        → (rest ≡ unnamed → Every (λ host. in_range protection host ≡ false) hosts)
+    go : (mapped : Answer ℕ) (rest : Option ℕ) (hosts : List ℕ) → cond (is_protected protection mapped) (Some first) rest ≡ None
+        → (rest ≡ None → Every (λ host. in_range protection host ≡ false) hosts)
         → Every (λ host. in_range protection host ≡ false) (with_host mapped hosts)
-    go (numbered.Number host) rest hosts f others = let both = test (in_range protection host) rest f in (both.0, others both.1)
-    go (numbered.Refused number) rest hosts f others = others f
+    go (Ok host) rest hosts f others = let both = test (in_range protection host) rest f in (both.0, others both.1)
+    go (Err refusal) rest hosts f others = others f
 
 -- a host sector lies in the range exactly where its user sector is one of the range's
 pub sector_reflects : (layout : Layout) (protection : Protection) (s : Sound layout) → SoundRange layout protection → (user host : ℕ)
-    → host_sector layout user ≡ numbered.Number host → Reflects (In (protected_extent layout protection) user) (in_range protection host)
+    → host_sector layout user ≡ Ok host → Reflects (In (protected_extent layout protection) user) (in_range protection host)
 unfolding SoundRange protected_extent in_range
-sector_reflects layout Unprotected s r user host e = fails (λ w. omega (arith, w.ends))
-sector_reflects layout (Protected first end) s r user host e =
+sector_reflects layout None s r user host e = fails (λ w. omega (arith, w.ends))
+sector_reflects layout (Some (first, end)) s r user host e =
     let told = number_says (host_sector_answers layout s user) e in
     let o = layout.data_start / 512 in
     let start = (first - layout.data_start) / 512 in
@@ -62,8 +63,8 @@ sector_reflects layout (Protected first end) s r user host e =
     (reflects_and (reflects_leb first (host * 512)) (reflects_leb (suc (host * 512)) end))
 
 -- the least sector of two extents is the first of the one that a walk finds in the other
-by_walk : {found : ℕ → Bool} {a b : Extent} {shared : Overlap} {naming : Naming} → Shared a b shared → Walked found a.first a.count naming
-    → ((user : ℕ) → In a user → Reflects (In b user) (found user)) → blocked_by 18 shared Accepted ≡ unless_at 18 naming
+by_walk : {found : ℕ → Bool} {a b : Extent} {shared : Option ℕ} {naming : Option ℕ} → Shared a b shared → Walked found a.first a.count naming
+    → ((user : ℕ) → In a user → Reflects (In b user) (found user)) → blocked_by 18 shared (Ok tt) ≡ unless_at 18 naming
 unfolding blocked_by unless_at
 by_walk (none f) (none_found g) tells = refl
 by_walk {a = a} (none f) (found_at sector h k t g) tells =
@@ -74,7 +75,7 @@ by_walk {a = a} (least sector i j l) (found_at other h k t g) tells =
     let before = l other o (holds_true (tells other o) t) in
     let none : sector < other → ⊥ = λ less. refutes (tells sector i) (g sector i.starts less) j in
     let same : sector ≡ other = omega arith in
-    ap (λ (n : ℕ). RefusedAt 18 n) same
+    ap (λ (n : ℕ). refuse_at 18 n) same
 
 module _ (layout : Layout) (s : Sound layout) (u n : ℕ) where
   -- the later checks of a write are the table's
@@ -82,7 +83,7 @@ module _ (layout : Layout) (s : Sound layout) (u n : ℕ) where
       → lock_answer layout protection locked u n ≡ later writes locked (first_protected layout protection u n)
   unfolding lock_answer later first_protected is_protected sectors
   lock_range protection locked r inside =
-      ap (λ (answer : Answer). check (Refused 17) (not locked) answer)
+      ap (λ (answer : Answer ⊤). check (refuse 17) (not locked) answer)
       (by_walk (overlap_shared (record { first = u; count = n }) (protected_extent layout protection))
       (first_of_walked (λ user. is_protected protection (host_sector layout user)) u n)
       (λ user i.

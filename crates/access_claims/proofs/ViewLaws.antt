@@ -3,17 +3,18 @@
 use Prim.Native.Nat.{suc, ◌%◌}
 use native.Mathlib.Omega.{arith}
 use Rattle.layout.specs.{Rules.standard, declared.Layout.Layout}
-use Rattle.protection.specs.{Protection.{area_end, protection_rule, sound_protection}, declared.Protection.Protection}
-use Rattle.protection.specs.declared.Protection.TheVariants.{Unprotected, Protected}
+use Rattle.protection.specs.Protection.{area_end, protection_rule, sound_protection}
 use Rattle.view.specs.declared.View.{View}
 use Rattle.access_claims.specs.Views.{SoundRange, SoundView}
 use Rattle.header_claims.proofs.Reflects.{Reflects, holds, reflects_map, reflects_and, reflects_eqb, reflects_leb}
 use Rattle.header_claims.proofs.SoundLaws.{sound_reflects}
+use Rattle.std.specs.Prelude.{Some, None}
+use Rattle.protection.specs.Protection.{Protection}
 
 pub range_reflects : (layout : Layout) (protection : Protection) → Reflects (SoundRange layout protection) (protection_rule layout protection)
 unfolding SoundRange protection_rule area_end
-range_reflects layout Unprotected = holds tt
-range_reflects layout (Protected first end) =
+range_reflects layout None = holds tt
+range_reflects layout (Some (first, end)) =
     reflects_map
     (λ p.
     record {

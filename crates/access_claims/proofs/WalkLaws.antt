@@ -6,8 +6,7 @@ use native.Mathlib.Omega.{arith}
 use mathlib.Core.{Path.{◌≡◌, refl, sym, ap, subst, ◌∙◌}, Bool.{Bool, true, false, cond, true≢false}}
 use lib.Dec.{leb, ltb}
 use borrow.Author.Tests.{leb-true, leb-false, ltb-true, ltb-false}
-use Rattle.answers.specs.{Answers.{Naming, unnamed, named}, declared.{Answer.{Answer, TheVariants.RefusedAt}, Numbered.Numbered}}
-use Rattle.extent.specs.{Extents.{larger, beyond}, declared.Overlap.TheVariants.{Apart, From}}
+use Rattle.extent.specs.Extents.{larger, beyond}
 use Rattle.judgement.specs.Judging.{blocked_by, end_answer}
 use Rattle.layout.specs.declared.Layout.{Layout}
 use Rattle.sector_map.specs.SectorMap.{sectors, host_sector}
@@ -15,6 +14,8 @@ use Rattle.header_claims.specs.SectorMap.{Sound}
 use Rattle.access_claims.specs.Table.{first_of, found_or, is_past, first_past, check}
 use Rattle.header_claims.proofs.MapLaws.{Answers, answers_number, answers16, host_sector_answers}
 use Rattle.header_claims.proofs.Reflects.{Reflects, holds, fails, is_true, holds_true, reflects_eqb}
+use Rattle.std.specs.Prelude.{Some, None, Option, ⊤}
+use Rattle.answers.specs.Answers.{Answer, refuse_at}
 
 -- a test that is false refutes what it reflects
 pub refutes : {P : Type 0} {b : Bool} → Reflects P b → b ≡ false → P → ⊥
@@ -29,18 +30,18 @@ from_first P first p later user h = go (reflects_eqb first user)
     go (fails f) = later user (omega arith)
 
 -- what a walk has found
-pub data Walked (found : ℕ → Bool) (first count : ℕ) : Naming → Type 0 where
-  none_found : ((user : ℕ) → first ≤ user → user < first + count → found user ≡ false) → Walked found first count unnamed
+pub data Walked (found : ℕ → Bool) (first count : ℕ) : Option ℕ → Type 0 where
+  none_found : ((user : ℕ) → first ≤ user → user < first + count → found user ≡ false) → Walked found first count None
   found_at : (sector : ℕ) → first ≤ sector → sector < first + count → found sector ≡ true
-      → ((user : ℕ) → first ≤ user → user < sector → found user ≡ false) → Walked found first count (named sector)
+      → ((user : ℕ) → first ≤ user → user < sector → found user ≡ false) → Walked found first count (Some sector)
 
 pub first_of_walked : (found : ℕ → Bool) (first count : ℕ) → Walked found first count (first_of found first count)
 unfolding first_of
 first_of_walked found first zero = none_found (λ user h k. absurd (omega arith))
 first_of_walked found first (suc count) = go (found first) refl (first_of_walked found (suc first) count)
   where
-    go : (t : Bool) → found first ≡ t → {rest : Naming} → Walked found (suc first) count rest
-        → Walked found first (suc count) (cond t (named first) rest)
+    go : (t : Bool) → found first ≡ t → {rest : Option ℕ} → Walked found (suc first) count rest
+        → Walked found first (suc count) (cond t (Some first) rest)
     go true e w = found_at first (omega arith) (omega arith) e (λ user h k. absurd (omega arith))
     go false e (none_found f) =
         none_found (from_first (λ user. user < first + suc count → found user ≡ false) first (λ k. e) (λ user h k. f user h (omega arith)))
@@ -54,7 +55,7 @@ module _ (layout : Layout) (s : Sound layout) where
   unfolding is_past sectors
   past_reflects user = go (host_sector_answers layout s user)
     where
-      go : {n : ℕ} {m : Numbered} → Answers (user < layout.data_size / 512) n m → Reflects (layout.data_size / 512 ≤ user) (is_past m)
+      go : {n : ℕ} {m : Answer ℕ} → Answers (user < layout.data_size / 512) n m → Reflects (layout.data_size / 512 ≤ user) (is_past m)
       go (answers_number p) = fails (λ h. omega arith)
       go (answers16 f) = holds (omega arith)
 
@@ -63,7 +64,7 @@ module _ (layout : Layout) (s : Sound layout) where
   first_past_larger first count past =
       go (ltb first (sectors layout)) refl (first_of_walked (λ user. is_past (host_sector layout user)) first count)
     where
-      go : (t : Bool) → ltb first (sectors layout) ≡ t → {naming : Naming} → Walked (λ user. is_past (host_sector layout user)) first count naming
+      go : (t : Bool) → ltb first (sectors layout) ≡ t → {naming : Option ℕ} → Walked (λ user. is_past (host_sector layout user)) first count naming
           → cond t (sectors layout) first ≡ found_or first naming
       go true e (none_found f) =
           let starts = ltb-true first (sectors layout) e in
@@ -80,12 +81,12 @@ module _ (layout : Layout) (s : Sound layout) where
           omega arith
 
   -- so the last check of every call is the table's, and the later ones matter only for an extent that is inside
-  pub end_tabled : (first count : ℕ) (rest other : Answer) → (first + count ≤ sectors layout → rest ≡ other)
-      → end_answer layout first count rest ≡ check (RefusedAt 16 (first_past layout first count)) (leb (first + count) (sectors layout)) other
+  pub end_tabled : (first count : ℕ) (rest other : Answer ⊤) → (first + count ≤ sectors layout → rest ≡ other)
+      → end_answer layout first count rest ≡ check (refuse_at 16 (first_past layout first count)) (leb (first + count) (sectors layout)) other
   unfolding end_answer beyond blocked_by
   end_tabled first count rest other same = go (leb (first + count) (sectors layout)) refl
     where
       go : (t : Bool) → leb (first + count) (sectors layout) ≡ t
-          → blocked_by 16 (cond t Apart (From (larger first (sectors layout)))) rest ≡ cond t other (RefusedAt 16 (first_past layout first count))
+          → blocked_by 16 (cond t None (Some (larger first (sectors layout)))) rest ≡ cond t other (refuse_at 16 (first_past layout first count))
       go true e = same (leb-true (first + count) (sectors layout) e)
-      go false e = ap (λ (sector : ℕ). RefusedAt 16 sector) (first_past_larger first count (leb-false (first + count) (sectors layout) e))
+      go false e = ap (λ (sector : ℕ). refuse_at 16 sector) (first_past_larger first count (leb-false (first + count) (sectors layout) e))

@@ -1,10 +1,9 @@
 -- What enciphers a sector (RULES.md, AES, XTS and Plaintext): its field, that under every key it is undone, and that its tweak is the host
 -- sector's number, as the block that the sector map gives. `enciphered`, `deciphered` and `tweak_bytes` are the definitions that the contracts
 -- of `xts` and `plaintext` cite. Assumes nothing.
-use Rattle.std.specs.Prelude.{ℕ, ◌+◌, ◌*◌, ◌/◌, ◌^◌, ◌<◌}
+use Rattle.std.specs.Prelude.{ℕ, ◌+◌, ◌*◌, ◌/◌, ◌^◌, ◌<◌, Ok}
 use mathlib.Core.{Path.◌≡◌, Bool.cond, List.List}
 use lib.{Bits.bit_xor, Dec.leb, ListN.length}
-use Rattle.answers.specs.declared.Numbered.TheVariants.{Number}
 use Rattle.bits.specs.Bits.{Bytes}
 use Rattle.layout.specs.declared.Layout.{Layout}
 use Rattle.judgement.specs.Offsets.{extent_start}
@@ -42,17 +41,17 @@ pub record EnciphersExactly (key : List ℕ) (number : ℕ) (unit : List ℕ) : 
 
 -- the claim for any two tweak numbers: their bytes are their blocks, and different numbers have different ones
 pub record SpellsTweaks (number other : ℕ) : Type 0 where
-  pub block : number < 2 ^ 64 → tweak_bytes number ≡ block_of (Number number)
+  pub block : number < 2 ^ 64 → tweak_bytes number ≡ block_of (Ok number)
   pub different : number < 2 ^ 64 → other < 2 ^ 64 → tweak_bytes number ≡ tweak_bytes other → number ≡ other
 
 -- the claim for any layout that is sound
 pub record TweaksSectors (layout : Layout) : Type 0 where
   -- the number that a plaintext call takes for a user sector, counted from its volume's first, is that of the host sector by the map
-  pub is_host : Sound layout → (user host : ℕ) → host_sector layout user ≡ Number host → first_sector layout + user ≡ host
+  pub is_host : Sound layout → (user host : ℕ) → host_sector layout user ≡ Ok host → first_sector layout + user ≡ host
   -- .. and so is the extent's first byte, of one sector that a caller moves itself, divided by 512
-  pub is_place : Sound layout → (user host : ℕ) → host_sector layout user ≡ Number host → extent_start layout user / 512 ≡ host
+  pub is_place : Sound layout → (user host : ℕ) → host_sector layout user ≡ Ok host → extent_start layout user / 512 ≡ host
   -- its bytes are the tweak block that the map gives
-  pub is_block : Sound layout → (user host : ℕ) → host_sector layout user ≡ Number host → tweak_bytes host ≡ (tweak_of layout user).block
+  pub is_block : Sound layout → (user host : ℕ) → host_sector layout user ≡ Ok host → tweak_bytes host ≡ (tweak_of layout user).block
   -- no two user sectors of a volume have the same
-  pub different : Sound layout → (user other host other_host : ℕ) → host_sector layout user ≡ Number host → host_sector layout other ≡ Number other_host
+  pub different : Sound layout → (user other host other_host : ℕ) → host_sector layout user ≡ Ok host → host_sector layout other ≡ Ok other_host
       → tweak_bytes host ≡ tweak_bytes other_host → user ≡ other

@@ -2,33 +2,34 @@
 -- and leave the view so, across the boundary too; the bytes are the reference model's, sector by sector, and what was written is read back.
 -- `PlainReadPost`, `PlainWritePost`, `PlainReadCall` and `PlainWriteCall` are the definitions that the contracts of `plaintext` and
 -- `boundary_plaintext` cite. Assumes nothing.
-use Rattle.std.specs.Prelude.{ℕ, length}
+use Rattle.std.specs.Prelude.{ℕ, length, Ok, ⊤}
 use mathlib.Core.{Path.◌≡◌, Bool.Bool, List.List}
-use Rattle.answers.specs.declared.Answer.{Answer, TheVariants.Accepted}
 use Rattle.bits.specs.Bits.{Bytes}
 use Rattle.view.specs.{Outcomes.{view_filled, view_written, ReadPost, WritePost}, declared.Outcome.Outcome}
 use Rattle.plaintext.specs.Plaintext.{plain_filled_by, plain_written_by, PlainReadPost, PlainWritePost}
-use Rattle.plaintext.specs.declared.{KeyedOutcome.KeyedOutcome, KeyedView.KeyedView}
+use Rattle.plaintext.specs.declared.KeyedView.{KeyedView}
 use Rattle.boundary_numbers.specs.BoundaryNumbers.{view_from}
 use Rattle.boundary_access.specs.BoundaryAccess.{ReadCall, WriteCall}
 use Rattle.boundary_plaintext.specs.BoundaryPlaintext.{PlainReadCall, PlainWriteCall}
 use Rattle.model.specs.Model.{Rules, buffer_after, image_after}
 use Rattle.access_claims.specs.{Access.{call, rules, read_by, write_by}, Enciphering.IsBytes, ReferenceModel.lock_left}
 use Rattle.access_claims.specs.{Table.{Operation, reads, writes, plaintext, Call}, Views.SoundView}
+use Rattle.answers.specs.Answers.{Answer}
+use Rattle.view.specs.declared.View.{View}
 
 module _ (keyed : KeyedView) (image : List ℕ) (first count : ℕ) (buffer : List ℕ) where
   -- the call, and the rules of its view with the view's key
   abbrev pub plain_call : Operation → Call
   plain_call = call keyed.view image first count buffer plaintext
 
-  abbrev pub keyed_rules : Rules Call Bool Answer
+  abbrev pub keyed_rules : Rules Call Bool (Answer ⊤)
   keyed_rules = rules keyed.view image first count buffer keyed.key
 
   -- the answers to a raw read and to a raw write
-  abbrev pub raw_read : Answer
+  abbrev pub raw_read : Answer ⊤
   raw_read = read_by keyed.view image first count buffer
 
-  abbrev pub raw_write : Answer
+  abbrev pub raw_write : Answer ⊤
   raw_write = write_by keyed.view image first count buffer
 
   -- the buffer after the read, and the image after the write
@@ -47,29 +48,29 @@ module _ (keyed : KeyedView) (image : List ℕ) (first count : ℕ) (buffer : Li
     pub filled : plain_filled ≡ buffer_after keyed_rules (plain_call reads) raw_read image
     pub written : plain_written ≡ image_after keyed_rules (plain_call writes) raw_write image
     -- what the calls hand back: the answer of a raw call, and the view, which only a write's 18 changes, with its key
-    pub read_back : (outcome : KeyedOutcome) (after : List ℕ) → PlainReadPost keyed image first count buffer outcome after
-        → (outcome.answer ≡ raw_read) × (outcome.keyed ≡ keyed) × (after ≡ plain_filled)
-    pub write_back : (outcome : KeyedOutcome) (after : List ℕ) → PlainWritePost keyed image first count buffer outcome after
+    pub read_back : (outcome : Outcome KeyedView ⊤) (after : List ℕ) → PlainReadPost keyed image first count buffer outcome after
+        → (outcome.answer ≡ raw_read) × (outcome.view ≡ keyed) × (after ≡ plain_filled)
+    pub write_back : (outcome : Outcome KeyedView ⊤) (after : List ℕ) → PlainWritePost keyed image first count buffer outcome after
         → (outcome.answer ≡ raw_write)
-        × (outcome.keyed
+        × (outcome.view
         ≡ record {
           view = record { layout = keyed.view.layout; protection = keyed.view.protection; locked = lock_left raw_write keyed.view.locked };
           key = keyed.key;
         })
         × (after ≡ plain_written)
     -- a raw call in its place hands back the same answer and the same view, so that raw calls go on as before
-    pub read_alike : (outcome : KeyedOutcome) (other : Outcome) (after other_after : List ℕ)
+    pub read_alike : (outcome : Outcome KeyedView ⊤) (other : Outcome View ⊤) (after other_after : List ℕ)
         → PlainReadPost keyed image first count buffer outcome after → ReadPost keyed.view image first count buffer other other_after
-        → (outcome.answer ≡ other.answer) × (outcome.keyed.view ≡ other.view)
-    pub write_alike : (outcome : KeyedOutcome) (other : Outcome) (after other_after : List ℕ)
+        → (outcome.answer ≡ other.answer) × (outcome.view.view ≡ other.view)
+    pub write_alike : (outcome : Outcome KeyedView ⊤) (other : Outcome View ⊤) (after other_after : List ℕ)
         → PlainWritePost keyed image first count buffer outcome after → WritePost keyed.view image first count buffer other other_after
-        → (outcome.answer ≡ other.answer) × (outcome.keyed.view ≡ other.view)
+        → (outcome.answer ≡ other.answer) × (outcome.view.view ≡ other.view)
 
   -- the claim for a write and a read of the same sectors behind it: what was written is read, whatever is passed to be filled
   pub record GivesBack : Type 0 where
-    pub reads_written : IsBytes 64 keyed.key → Bytes buffer → raw_write ≡ Accepted → (room : List ℕ) → length room ≡ length buffer
-        → (read_by keyed.view plain_written first count room ≡ Accepted)
-        × (plain_filled_by Accepted keyed.view.layout keyed.key plain_written first count room ≡ buffer)
+    pub reads_written : IsBytes 64 keyed.key → Bytes buffer → raw_write ≡ Ok tt → (room : List ℕ) → length room ≡ length buffer
+        → (read_by keyed.view plain_written first count room ≡ Ok tt)
+        × (plain_filled_by (Ok tt) keyed.view.layout keyed.key plain_written first count room ≡ buffer)
 
 -- the claim for the exported calls on any numbers: but for the bytes, each is a raw one, with its number, its sector and the view's numbers
 pub record TellsAsRaw (view key image : List ℕ) (first count : ℕ) (buffer sector_before : List ℕ) : Type 0 where

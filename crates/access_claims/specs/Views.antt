@@ -1,22 +1,22 @@
 -- Views (RULES.md, Views): when one is sound, from which layouts one is made, and what it then is, field by field.
 -- `plain_view` and `protected_view` are the definitions that the contracts of `making::plain` and `making::protected` cite. Assumes nothing.
-use Rattle.std.specs.Prelude.{ℕ, ◌+◌, ◌%◌, ◌≤◌, ◌<◌}
+use Rattle.std.specs.Prelude.{ℕ, ◌+◌, ◌%◌, ◌≤◌, ◌<◌, Ok, Some, None}
 use mathlib.Core.{Path.◌≡◌, Bool.{Bool, false}}
 use Rattle.layout.specs.Rules.{standard, hidden}
 use Rattle.layout.specs.declared.Layout.{Layout}
 use Rattle.making.specs.Views.{plain_view, protected_view}
-use Rattle.protection.specs.declared.Protection.{Protection, TheVariants.{Unprotected, Protected}}
 use Rattle.view.specs.declared.View.{View}
-use Rattle.making.specs.declared.Viewed.TheVariants.{Made, Refused}
 use Rattle.header_claims.specs.{Header.Multiple, SectorMap.Sound}
+use Rattle.answers.specs.Answers.{refuse}
+use Rattle.protection.specs.Protection.{Protection}
 
 -- a volume's view that protects nothing
 abbrev pub plain : Layout → Bool → View
-plain layout locked = record { layout = layout; protection = Unprotected; locked = locked }
+plain layout locked = record { layout = layout; protection = None; locked = locked }
 
 -- a volume's data area as a protected range, from its first byte to the byte past its end
 abbrev pub area : Layout → Protection
-area layout = Protected layout.data_start (layout.data_start + layout.data_size)
+area layout = Some (layout.data_start, layout.data_start + layout.data_size)
 
 -- an outer volume's view that protects a hidden one's data area
 abbrev pub protecting : Layout → Layout → Bool → View
@@ -33,8 +33,8 @@ pub record ProtectedRange (layout : Layout) (first end : ℕ) : Type 0 where
 
 -- what is protected, if anything is
 unfoldable pub SoundRange : Layout → Protection → Type 0
-SoundRange layout Unprotected = Unit
-SoundRange layout (Protected first end) = ProtectedRange layout first end
+SoundRange layout None = Unit
+SoundRange layout (Some (first, end)) = ProtectedRange layout first end
 
 -- a view is sound: its layout and what it protects are, and its lock is open or closed
 pub record SoundView (view : View) : Type 0 where
@@ -53,12 +53,12 @@ pub record Nested (outer hidden_layout : Layout) : Type 0 where
 -- the claim, for any two layouts
 pub record MakesViews (outer hidden_layout : Layout) : Type 0 where
   -- a plain view, its lock open, from any sound layout, else 11
-  pub plain_made : Sound outer → plain_view outer ≡ Made (plain outer false)
-  pub plain_unsound : (Sound outer → ⊥) → plain_view outer ≡ Refused 11
+  pub plain_made : Sound outer → plain_view outer ≡ Ok (plain outer false)
+  pub plain_unsound : (Sound outer → ⊥) → plain_view outer ≡ refuse 11
   -- a protected view, its lock open: 11 if either is unsound, then 12 unless they nest
-  pub guarded_made : Sound outer → Sound hidden_layout → Nested outer hidden_layout → protected_view outer hidden_layout ≡ Made (protecting outer hidden_layout false)
-  pub guarded_unsound : (Sound outer × Sound hidden_layout → ⊥) → protected_view outer hidden_layout ≡ Refused 11
-  pub guarded_apart : Sound outer → Sound hidden_layout → (Nested outer hidden_layout → ⊥) → protected_view outer hidden_layout ≡ Refused 12
+  pub guarded_made : Sound outer → Sound hidden_layout → Nested outer hidden_layout → protected_view outer hidden_layout ≡ Ok (protecting outer hidden_layout false)
+  pub guarded_unsound : (Sound outer × Sound hidden_layout → ⊥) → protected_view outer hidden_layout ≡ refuse 11
+  pub guarded_apart : Sound outer → Sound hidden_layout → (Nested outer hidden_layout → ⊥) → protected_view outer hidden_layout ≡ refuse 12
   -- what comes out is sound, whatever its lock later
   pub plain_sound : (locked : Bool) → Sound outer → SoundView (plain outer locked)
   pub guarded_sound : (locked : Bool) → Sound outer → Sound hidden_layout → Nested outer hidden_layout → SoundView (protecting outer hidden_layout locked)

@@ -1,60 +1,44 @@
 -- Answers, their refusal numbers and the sectors that they name, the order of checks, and the lock (RULES.md, Refusals): what the contracts of
 -- `answers` cite, and every judgement above it. Assumes nothing.
-use Rattle.std.specs.Prelude.{ℕ, Bool, true, false, cond, eqb}
-use Rattle.answers.specs.declared.{Answer.Answer, Placement.Placement, Numbered.Numbered, Written.Written}
-use Rattle.answers.specs.declared.Answer.TheVariants as answer
-use Rattle.answers.specs.declared.Placement.TheVariants as placement
-use Rattle.answers.specs.declared.Numbered.TheVariants as numbered
-use Rattle.answers.specs.declared.Written.TheVariants as written
+use Rattle.std.specs.Prelude.{ℕ, Bool, true, false, cond, eqb, Option, Some, None, Result, Ok, Err}
+use Rattle.answers.specs.declared.Refusal.{Refusal}
+
+-- an answer: what was asked for, or why it is refused
+abbrev pub Answer : Type 0 → Type 0
+Answer T = Result T Refusal
+
+-- a refusal by a number alone, and by one at the user sector that is in the way
+abbrev pub refusal_by : ℕ → Refusal
+refusal_by number = record { number = number; sector = None }
+
+abbrev pub refusal_at : ℕ → ℕ → Refusal
+refusal_at number sector = record { number = number; sector = Some sector }
+
+-- the same as answers
+abbrev pub refuse : {T : Type 0} → ℕ → Answer T
+refuse number = Err (refusal_by number)
+
+abbrev pub refuse_at : {T : Type 0} → ℕ → ℕ → Answer T
+refuse_at number sector = Err (refusal_at number sector)
 
 -- one check of several in order: what it refuses with where it is not kept, else what the later ones say
 abbrev pub line : {A : Type 0} → A → Bool → A → A
 line refused kept later = cond kept later refused
 
 -- an answer is an acceptance
-unfoldable pub is_accepted : Answer → Bool
-is_accepted answer.Accepted = true
-is_accepted (answer.Refused number) = false
-is_accepted (answer.RefusedAt number sector) = false
+unfoldable pub is_accepted : {T : Type 0} → Answer T → Bool
+is_accepted (Ok given) = true
+is_accepted (Err refusal) = false
 
 -- the refusal number of an answer; 0 for an acceptance is our own convention, here and wherever there is a refusal number
-unfoldable pub answer_refusal : Answer → ℕ
-answer_refusal answer.Accepted = 0
-answer_refusal (answer.Refused number) = number
-answer_refusal (answer.RefusedAt number sector) = number
-
--- a user sector that is named, or none
-pub data Naming : Type 0 where
-  unnamed : Naming
-  named : ℕ → Naming
+unfoldable pub refusal_number : {T : Type 0} → Answer T → ℕ
+refusal_number (Ok given) = 0
+refusal_number (Err refusal) = refusal.number
 
 -- the user sector that an answer names: the first in the way
-unfoldable pub answer_sector : Answer → Naming
-answer_sector answer.Accepted = unnamed
-answer_sector (answer.Refused number) = unnamed
-answer_sector (answer.RefusedAt number sector) = named sector
-
--- the refusal number where an offset is asked for
-unfoldable pub placement_refusal : Placement → ℕ
-placement_refusal (placement.Offset offset) = 0
-placement_refusal (placement.Refused number) = number
-placement_refusal (placement.RefusedAt number sector) = number
-
--- the user sector that is named there
-unfoldable pub placement_sector : Placement → Naming
-placement_sector (placement.Offset offset) = unnamed
-placement_sector (placement.Refused number) = unnamed
-placement_sector (placement.RefusedAt number sector) = named sector
-
--- the refusal number where a number is asked for
-unfoldable pub numbered_refusal : Numbered → ℕ
-numbered_refusal (numbered.Number number) = 0
-numbered_refusal (numbered.Refused number) = number
-
--- the refusal number where a header is to be written
-unfoldable pub written_refusal : Written → ℕ
-written_refusal written.Done = 0
-written_refusal (written.Refused number) = number
+unfoldable pub answer_sector : {T : Type 0} → Answer T → Option ℕ
+answer_sector (Ok given) = None
+answer_sector (Err refusal) = refusal.sector
 
 -- a lock after a write, by the number that the write is refused by: 18 closes it
 unfoldable pub locked_after : Bool → ℕ → Bool

@@ -1,70 +1,90 @@
-// Answers with nothing in them but numbers (RULES.md, Refusals): of a read or a write, of where it finds its
-// bytes, of a call that gives a number, and of one that writes a header.
+// Answers: what was asked for, or why it is refused (RULES.md, Refusals).
 // Assumes nothing; no function has a `requires`.
 #![tactic(auto)]
 
 ghost use Rattle.std.specs.Prelude.{◌≡◌};
-ghost use Rattle.answers.specs.Answers.{answer_refusal, placement_refusal, written_refusal, locked_after};
+ghost use Rattle.answers.specs.Answers.{refusal_by, refusal_at, refusal_number, locked_after};
 
-// Accepted, or a refusal number, or one with the first user sector that is in the way.
-#[derive(Clone, Copy)]
-pub enum Answer {
-    Accepted,
-    Refused(u8),
-    RefusedAt(u8, u64),
+// The refusal numbers, named as in refusals.txt.
+pub const LENGTHS: u8 = 1;
+
+pub const CODE: u8 = 2;
+
+pub const HOST_SIZE: u8 = 3;
+
+pub const NO_HEADER: u8 = 4;
+
+pub const VERSION: u8 = 5;
+
+pub const RESERVED: u8 = 6;
+
+pub const FLAGS: u8 = 7;
+
+pub const SECTOR_SIZE: u8 = 8;
+
+pub const HIDDEN_SIZE: u8 = 9;
+
+pub const DATA_AREA: u8 = 10;
+
+pub const UNSOUND: u8 = 11;
+
+pub const NOT_NESTED: u8 = 12;
+
+pub const IMAGE_SIZE: u8 = 13;
+
+pub const COUNT: u8 = 14;
+
+pub const BUFFER_SIZE: u8 = 15;
+
+pub const OUTSIDE: u8 = 16;
+
+pub const LOCKED: u8 = 17;
+
+pub const PROTECTED: u8 = 18;
+
+pub const MAGIC: u8 = 19;
+
+pub const UNALIGNED: u8 = 20;
+
+// Why a call is refused: a refusal number, and for some the first user sector that is in the way.
+// The number is no enum of its own: anybody may make a refusal up, and TellsNumbers in
+// guarantees/specs/Boundary.antt says of every number that it is told as it is.
+#[derive(Clone, Copy, Debug, PartialEq, Eq)]
+pub struct Refusal {
+    pub number: u8,
+    pub sector: Option<u64>,
 }
 
-// The offset in the host of a call's first byte, or the call's refusal.
-#[derive(Clone, Copy)]
-pub enum Placement {
-    Offset(u64),
-    Refused(u8),
-    RefusedAt(u8, u64),
-}
+impl Refusal {
+    // By a number alone.
+    pub fn new(number: u8) -> Refusal
+        ensures { result ≡ refusal_by number }
+    {
+        Refusal {
+            number,
+            sector: None,
+        }
+    }
 
-// A number, such as a sector's, a tweak's or an offset, or a refusal number.
-#[derive(Clone, Copy)]
-pub enum Numbered {
-    Number(u64),
-    Refused(u8),
-}
-
-// The header is written, or a refusal number.
-#[derive(Clone, Copy)]
-pub enum Written {
-    Done,
-    Refused(u8),
+    // By a number, at the user sector that is in the way.
+    pub fn at(number: u8, sector: u64) -> Refusal
+        ensures { result ≡ refusal_at number sector }
+    {
+        Refusal {
+            number,
+            sector: Some(sector),
+        }
+    }
 }
 
 // The refusal number of an answer, 0 where it is an acceptance.
-pub fn refusal(answer: Answer) -> u8
-    ensures { result ≡ answer_refusal answer }
+#[tactic(auto, unfolding(crate::specs::Answers::refusal_number))]
+pub fn refusal_number<T>(answer: &Result<T, Refusal>) -> u8
+    ensures { result ≡ refusal_number answer.now }
 {
     match answer {
-        Answer::Accepted => 0,
-        Answer::Refused(number) => number,
-        Answer::RefusedAt(number, _) => number,
-    }
-}
-
-// The refusal number of a placement, 0 where it is an offset.
-pub fn placement_refusal(placement: Placement) -> u8
-    ensures { result ≡ placement_refusal placement }
-{
-    match placement {
-        Placement::Offset(_) => 0,
-        Placement::Refused(number) => number,
-        Placement::RefusedAt(number, _) => number,
-    }
-}
-
-// The refusal number of a header's writing, 0 where it is written.
-pub fn written_refusal(written: Written) -> u8
-    ensures { result ≡ written_refusal written }
-{
-    match written {
-        Written::Done => 0,
-        Written::Refused(number) => number,
+        Ok(_) => 0,
+        Err(refusal) => refusal.number,
     }
 }
 
@@ -73,7 +93,7 @@ pub fn written_refusal(written: Written) -> u8
 pub fn locked_after(locked: bool, number: u8) -> bool
     ensures { result ≡ locked_after locked number }
 {
-    if number == 18 {
+    if number == PROTECTED {
         return true;
     }
     locked

@@ -1,5 +1,5 @@
-// Reads and writes on a view, over numbers and slices: each returns 0 where it accepts, and else the refusal number
-// and changes nothing, but that 16 and 18 store the first user sector in the way, and 18 closes the view's lock.
+// Reads and writes on a view, over numbers and slices, as C passes them: each returns 0 where it accepts, and else the
+// refusal number and changes nothing, but that 16 and 18 store the first user sector in the way, and 18 closes the view's lock.
 // Assumes nothing; no public function has a `requires`.
 #![tactic(auto)]
 

@@ -1,18 +1,17 @@
 -- Where reads and writes on a view's numbers find their bytes (RULES.md, Boundary): what the contracts of `boundary_extents` cite.
 -- Assumes nothing.
-use Rattle.std.specs.Prelude.{ℕ}
+use Rattle.std.specs.Prelude.{ℕ, Ok, Err}
 use mathlib.Core.{Path.◌≡◌, List.{List, [], ◌∷◌}}
-use Rattle.answers.specs.declared.Placement.{Placement, TheVariants.{Offset, Refused, RefusedAt}}
 use Rattle.judgement.specs.Offsets.{placed_by}
 use Rattle.view.specs.Outcomes.{view_read, view_write}
 use Rattle.boundary_numbers.specs.BoundaryNumbers.{view_from}
 use Rattle.boundary_answers.specs.BoundaryAnswers.{view_left, Tells}
+use Rattle.answers.specs.Answers.{Answer}
 
 -- what a call leaves of the number passed for an offset: the offset, or what was there
-unfoldable pub offset_left : Placement → List ℕ → List ℕ
-offset_left (Offset offset) before = offset ∷ []
-offset_left (Refused number) before = before
-offset_left (RefusedAt number sector) before = before
+unfoldable pub offset_left : Answer ℕ → List ℕ → List ℕ
+offset_left (Ok offset) before = offset ∷ []
+offset_left (Err refusal) before = before
 
 -- what the extent of a read leaves: what the read says of its answer, and the extent's first byte
 pub record ReadExtentCall (view : List ℕ) (image_size first count buffer_size : ℕ) (offset_before sector_before : List ℕ) (number : ℕ) (offset sector : List ℕ) : Type 0 where

@@ -4,12 +4,12 @@
 #![tactic(auto)]
 
 ghost use Rattle.std.specs.Prelude.{◌≡◌};
-ghost use Rattle.answers.specs.Answers.{placement_refusal, placement_sector};
+ghost use Rattle.answers.specs.Answers.{refusal_number, answer_sector};
 ghost use Rattle.boundary_answers.specs.BoundaryAnswers.{sector_left};
 ghost use Rattle.boundary_extents.specs.BoundaryExtents.{offset_left, ReadExtentCall, WriteExtentCall};
 
-use answers::Placement;
-use boundary_answers::lock_after;
+use answers::Refusal;
+use boundary_answers::{give_refusal, lock_after};
 use boundary_numbers::VIEW_SIZE;
 
 // Where in the host a read of such sizes finds its bytes: the extent's first byte.
@@ -26,7 +26,7 @@ pub fn read_extent(
 {
     let told = boundary_numbers::view_from(view);
     let placed = told.read_extent(image_size, first, count, buffer_size);
-    let placement = placed.placement;
+    let placement = placed.answer;
     give_placement(placement, offset, sector)
 }
 
@@ -44,25 +44,26 @@ pub fn write_extent(
 {
     let told = boundary_numbers::view_from(view);
     let placed = told.write_extent(image_size, first, count, buffer_size);
-    let placement = placed.placement;
+    let placement = placed.answer;
     lock_after(give_placement(placement, offset, sector), view)
 }
 
 // Stores an offset, or the sector that a refusal names, and returns the number.
-fn give_placement(placement: Placement, offset: &mut [u64; 1], sector: &mut [u64; 1]) -> u64
-    ensures value { result ≡ placement_refusal placement }
+#[tactic(auto, unfolding(answers::specs::Answers::refusal_number, answers::specs::Answers::answer_sector, boundary_answers::specs::BoundaryAnswers::sector_left, crate::specs::BoundaryExtents::offset_left))]
+fn give_placement(
+    placement: Result<u64, Refusal>,
+    offset: &mut [u64; 1],
+    sector: &mut [u64; 1],
+) -> u64
+    ensures value { result ≡ refusal_number placement }
     ensures offset_after { offset.new ≡ offset_left placement offset.old }
-    ensures sector_after { sector.new ≡ sector_left (placement_sector placement) sector.old }
+    ensures sector_after { sector.new ≡ sector_left (answer_sector placement) sector.old }
 {
     match placement {
-        Placement::Offset(start) => {
+        Ok(start) => {
             *offset = [start];
             0
         }
-        Placement::Refused(number) => number as u64,
-        Placement::RefusedAt(number, blocked) => {
-            *sector = [blocked];
-            number as u64
-        }
+        Err(refusal) => give_refusal(refusal, sector),
     }
 }

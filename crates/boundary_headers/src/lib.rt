@@ -4,7 +4,7 @@
 #![tactic(auto)]
 
 ghost use Rattle.std.specs.Prelude.{◌≡◌, length};
-ghost use Rattle.answers.specs.Answers.{written_refusal};
+ghost use Rattle.answers.specs.Answers.{refusal_number};
 ghost use Rattle.header_writing.specs.HeaderWriting.{asked_layout, header_answer, header_left};
 
 // Writes the header of a volume over all of header.
@@ -21,7 +21,7 @@ pub fn write_header(
     keys: &[u8],
     header: &mut [u8],
 ) -> u64
-    ensures value { result ≡ written_refusal (header_answer code (asked_layout magic.now version min_program_version code host_size data_start data_size sector_size) (length salt.now) (length keys.now) (length header.old)) }
+    ensures value { result ≡ refusal_number (header_answer code (asked_layout magic.now version min_program_version code host_size data_start data_size sector_size) (length salt.now) (length keys.now) (length header.old)) }
     ensures header_after { header.new ≡ header_left (header_answer code (asked_layout magic.now version min_program_version code host_size data_start data_size sector_size) (length salt.now) (length keys.now) (length header.old)) (asked_layout magic.now version min_program_version code host_size data_start data_size sector_size) salt.now keys.now header.old }
 {
     let written = header_writing::write(
@@ -37,5 +37,5 @@ pub fn write_header(
         keys,
         header,
     );
-    answers::written_refusal(written) as u64
+    u64::from(answers::refusal_number(&written))
 }

@@ -4,19 +4,18 @@
 #![tactic(auto)]
 
 ghost use Rattle.std.specs.Prelude.{◌≡◌};
-ghost use Rattle.answers.specs.Answers.{numbered_refusal};
+ghost use Rattle.answers.specs.Answers.{refusal_number};
 ghost use Rattle.sector_map.specs.SectorMap.{host_sector, user_sector};
 ghost use Rattle.tweaks.specs.Tweaks.{tweak_of};
 ghost use Rattle.boundary_numbers.specs.BoundaryNumbers.{layout_from, block_left};
 ghost use Rattle.boundary_answers.specs.BoundaryAnswers.{numbered_left};
 
-use answers::Numbered;
 use boundary_numbers::LAYOUT_SIZE;
 use tweaks::Tweak;
 
 // The host sector that holds a user sector.
 pub fn host_sector(layout: &[u64; LAYOUT_SIZE], user: u64, host: &mut [u64; 1]) -> u64
-    ensures value { result ≡ numbered_refusal (host_sector (layout_from layout.now) user) }
+    ensures value { result ≡ refusal_number (host_sector (layout_from layout.now) user) }
     ensures host_after { host.new ≡ numbered_left (host_sector (layout_from layout.now) user) host.old }
 {
     let told = boundary_numbers::layout_from(layout);
@@ -25,7 +24,7 @@ pub fn host_sector(layout: &[u64; LAYOUT_SIZE], user: u64, host: &mut [u64; 1]) 
 
 // The user sector that a host sector holds.
 pub fn user_sector(layout: &[u64; LAYOUT_SIZE], host: u64, user: &mut [u64; 1]) -> u64
-    ensures value { result ≡ numbered_refusal (user_sector (layout_from layout.now) host) }
+    ensures value { result ≡ refusal_number (user_sector (layout_from layout.now) host) }
     ensures user_after { user.new ≡ numbered_left (user_sector (layout_from layout.now) host) user.old }
 {
     let told = boundary_numbers::layout_from(layout);
@@ -34,7 +33,7 @@ pub fn user_sector(layout: &[u64; LAYOUT_SIZE], host: u64, user: &mut [u64; 1]) 
 
 // The tweak block of a user sector.
 pub fn tweak(layout: &[u64; LAYOUT_SIZE], user: u64, block: &mut [u8; 16]) -> u64
-    ensures value { result ≡ numbered_refusal (tweak_of (layout_from layout.now) user).number }
+    ensures value { result ≡ refusal_number (tweak_of (layout_from layout.now) user).number }
     ensures block_after { block.new ≡ block_left (tweak_of (layout_from layout.now) user).number (tweak_of (layout_from layout.now) user).block block.old }
 {
     let told = boundary_numbers::layout_from(layout);
@@ -42,17 +41,11 @@ pub fn tweak(layout: &[u64; LAYOUT_SIZE], user: u64, block: &mut [u8; 16]) -> u6
 }
 
 // Stores the block of a tweak.
+#[tactic(auto, unfolding(answers::specs::Answers::refusal_number, boundary_numbers::specs::BoundaryNumbers::given_or, boundary_numbers::specs::BoundaryNumbers::block_left))]
 fn give_block(tweak: Tweak, block: &mut [u8; 16]) -> u64
-    ensures value { result ≡ numbered_refusal tweak.number }
+    ensures value { result ≡ refusal_number tweak.number }
     ensures block_after { block.new ≡ block_left tweak.number tweak.block block.old }
 {
-    let answer = tweak.number;
     let made = tweak.block;
-    match answer {
-        Numbered::Number(_) => {
-            *block = made;
-            0
-        }
-        Numbered::Refused(number) => number as u64,
-    }
+    boundary_numbers::give(tweak.number.and(Ok(made)), block)
 }

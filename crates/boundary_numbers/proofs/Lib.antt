@@ -1,2 +1,2 @@
 pub mod GivenLaws
-pub mod StoreLaws
+pub mod MappedLaws

@@ -1,16 +1,12 @@
 -- Layouts and views as numbers, and what an answer that holds one leaves in the numbers passed for it (RULES.md, Boundary): what the
 -- contracts of `boundary_numbers` and of every exported function cite. Assumes nothing.
-use Rattle.std.specs.Prelude.{ℕ, ◌+◌}
+use Rattle.std.specs.Prelude.{ℕ, ◌+◌, Ok, Err, Some, None}
 use mathlib.Core.{Bool.{not, cond}, List.{List, [], ◌∷◌, ◌++◌}}
 use lib.{Dec.eqb, ListN.get_or}
-use Rattle.answers.specs.declared.Numbered.{Numbered}
-use Rattle.answers.specs.declared.Numbered.TheVariants as numbered
-use Rattle.layout.specs.declared.{Layout.Layout, Opened.Opened}
-use Rattle.layout.specs.declared.Opened.TheVariants as opened
-use Rattle.protection.specs.declared.Protection.{Protection, TheVariants.{Unprotected, Protected}}
+use Rattle.layout.specs.declared.Layout.{Layout}
 use Rattle.view.specs.declared.View.{View}
-use Rattle.making.specs.declared.Viewed.{Viewed}
-use Rattle.making.specs.declared.Viewed.TheVariants as viewed
+use Rattle.answers.specs.Answers.{Answer}
+use Rattle.protection.specs.Protection.{Protection}
 
 -- how many numbers a layout has
 abbrev pub layout_size : ℕ
@@ -43,12 +39,12 @@ layout_from numbers =
 
 -- what is protected, as three numbers: 0 for nothing, else 1, the range's first byte and the byte past its end
 unfoldable pub protection_numbers : Protection → List ℕ
-protection_numbers Unprotected = 0 ∷ 0 ∷ 0 ∷ []
-protection_numbers (Protected first end) = 1 ∷ first ∷ end ∷ []
+protection_numbers None = 0 ∷ 0 ∷ 0 ∷ []
+protection_numbers (Some (first, end)) = 1 ∷ first ∷ end ∷ []
 
 -- what three numbers protect: nothing where the first is 0, else the range
 unfoldable pub protection_from : ℕ → ℕ → ℕ → Protection
-protection_from protected first end = cond (eqb protected 0) Unprotected (Protected first end)
+protection_from protected first end = cond (eqb protected 0) None (Some (first, end))
 
 -- the numbers of a view: its layout's, what is protected, and the lock, 0 open and 1 closed
 unfoldable pub view_numbers : View → List ℕ
@@ -63,15 +59,20 @@ view_from numbers =
       locked = not (eqb (get_or numbers lock_index 0) 0);
     }
 
+-- what an answer holds, and what was there where it is a refusal
+unfoldable pub given_or : {T : Type 0} → Answer T → T → T
+given_or (Ok given) before = given
+given_or (Err refusal) before = before
+
 -- what a call leaves: on an acceptance the layout's numbers, the view's or the tweak's block, on a refusal what was there
-unfoldable pub opened_left : Opened → List ℕ → List ℕ
-opened_left (opened.Accepted layout) before = layout_numbers layout
-opened_left (opened.Refused number) before = before
+unfoldable pub opened_left : Answer Layout → List ℕ → List ℕ
+opened_left (Ok layout) before = layout_numbers layout
+opened_left (Err refusal) before = before
 
-unfoldable pub viewed_left : Viewed → List ℕ → List ℕ
-viewed_left (viewed.Made view) before = view_numbers view
-viewed_left (viewed.Refused number) before = before
+unfoldable pub viewed_left : Answer View → List ℕ → List ℕ
+viewed_left (Ok view) before = view_numbers view
+viewed_left (Err refusal) before = before
 
-unfoldable pub block_left : Numbered → List ℕ → List ℕ → List ℕ
-block_left (numbered.Number number) block before = block
-block_left (numbered.Refused number) block before = before
+unfoldable pub block_left : Answer ℕ → List ℕ → List ℕ → List ℕ
+block_left (Ok number) block before = block
+block_left (Err refusal) block before = before

@@ -4,14 +4,13 @@
 // Assumes nothing; no public function has a `requires`.
 #![tactic(auto)]
 
-ghost use Rattle.std.specs.Prelude.{◌≡◌, ◌++◌, ◌≤◌, length, drop};
-ghost use Rattle.layout.specs.Opened.{opened_refusal};
-ghost use Rattle.making.specs.Views.{viewed_refusal};
+ghost use Rattle.std.specs.Prelude.{◌≡◌, ◌≤◌, length};
+ghost use Rattle.answers.specs.Answers.{refusal_number};
 ghost use Rattle.boundary_numbers.specs.BoundaryNumbers.{layout_size, layout_numbers, layout_from, protection_numbers, protection_from};
-ghost use Rattle.boundary_numbers.specs.BoundaryNumbers.{view_numbers, view_from, opened_left, viewed_left};
+ghost use Rattle.boundary_numbers.specs.BoundaryNumbers.{view_numbers, view_from, given_or, opened_left, viewed_left};
 
-use layout::{Layout, Opened};
-use making::Viewed;
+use answers::Refusal;
+use layout::Layout;
 use protection::Protection;
 use view::View;
 
@@ -30,7 +29,8 @@ const END: usize = LAYOUT_SIZE + 2;
 
 pub const LOCK: usize = LAYOUT_SIZE + 3;
 
-// The layout that nine numbers tell.
+// The layout that nine numbers tell. Functions and no `From`, here and below: the order of the numbers is the C
+// interface's, and not a layout's own.
 pub fn layout_from(numbers: &[u64; LAYOUT_SIZE]) -> Layout
     ensures { result ≡ layout_from numbers.now }
 {
@@ -38,6 +38,7 @@ pub fn layout_from(numbers: &[u64; LAYOUT_SIZE]) -> Layout
 }
 
 // The view that thirteen numbers tell.
+#[tactic(auto, unfolding(crate::specs::BoundaryNumbers::view_from))]
 pub fn view_from(numbers: &[u64; VIEW_SIZE]) -> View
     ensures { result ≡ view_from numbers.now }
 {
@@ -48,35 +49,39 @@ pub fn view_from(numbers: &[u64; VIEW_SIZE]) -> View
     }
 }
 
-// Stores the layout of an opening.
-pub fn give_layout(answer: Opened, numbers: &mut [u64; LAYOUT_SIZE]) -> u64
-    ensures value { result ≡ opened_refusal answer }
-    ensures numbers_after { numbers.new ≡ opened_left answer numbers.old }
+// Stores what an answer holds, and returns its refusal number, 0 for an acceptance.
+#[tactic(auto, unfolding(answers::specs::Answers::refusal_number, crate::specs::BoundaryNumbers::given_or))]
+pub fn give<T: Drop>(answer: Result<T, Refusal>, place: &mut T) -> u64
+    ensures value { result ≡ refusal_number answer }
+    ensures place_after { place.new ≡ given_or answer place.old }
 {
     match answer {
-        Opened::Accepted(layout) => {
-            store_layout(layout, numbers);
+        Ok(given) => {
+            *place = given;
             0
         }
-        Opened::Refused(number) => number as u64,
+        Err(refusal) => u64::from(refusal.number),
     }
+}
+
+// Stores the layout of an opening.
+pub fn give_layout(answer: Result<Layout, Refusal>, numbers: &mut [u64; LAYOUT_SIZE]) -> u64
+    ensures value { result ≡ refusal_number answer }
+    ensures numbers_after { numbers.new ≡ opened_left answer numbers.old }
+{
+    give(answer.map(layout_numbers), numbers)
 }
 
 // Stores a view that was made.
-pub fn give_view(answer: Viewed, numbers: &mut [u64; VIEW_SIZE]) -> u64
-    ensures value { result ≡ viewed_refusal answer }
+pub fn give_view(answer: Result<View, Refusal>, numbers: &mut [u64; VIEW_SIZE]) -> u64
+    ensures value { result ≡ refusal_number answer }
     ensures numbers_after { numbers.new ≡ viewed_left answer numbers.old }
 {
-    match answer {
-        Viewed::Made(view) => {
-            store_view(view, numbers);
-            0
-        }
-        Viewed::Refused(number) => number as u64,
-    }
+    give(answer.map(view_numbers), numbers)
 }
 
 // The layout that the first numbers of a layout or a view tell.
+#[tactic(auto, unfolding(crate::specs::BoundaryNumbers::layout_from))]
 fn read_layout(numbers: &[u64]) -> Layout
     requires { layout_size ≤ length numbers.now }
     ensures { result ≡ layout_from numbers.now }
@@ -94,48 +99,49 @@ fn read_layout(numbers: &[u64]) -> Layout
     }
 }
 
-// Stores a layout's numbers as the first of a layout's or a view's.
-fn store_layout(layout: Layout, numbers: &mut [u64])
-    requires { layout_size ≤ length numbers.old }
-    ensures { numbers.new ≡ layout_numbers layout ++ drop layout_size numbers.old }
+// The numbers of a layout, in their order.
+#[tactic(auto, unfolding(crate::specs::BoundaryNumbers::layout_numbers))]
+fn layout_numbers(layout: Layout) -> [u64; LAYOUT_SIZE]
+    ensures { result ≡ layout_numbers layout }
 {
-    numbers[0] = layout.host_size;
-    numbers[1] = layout.kind;
-    numbers[2] = layout.magic;
-    numbers[3] = layout.version;
-    numbers[4] = layout.min_program_version;
-    numbers[5] = layout.data_start;
-    numbers[6] = layout.data_size;
-    numbers[7] = layout.candidate;
-    numbers[8] = layout.sector_size;
+    [
+        layout.host_size,
+        layout.kind,
+        layout.magic,
+        layout.version,
+        layout.min_program_version,
+        layout.data_start,
+        layout.data_size,
+        layout.candidate,
+        layout.sector_size,
+    ]
 }
 
-fn store_view(view: View, numbers: &mut [u64; VIEW_SIZE])
-    ensures { numbers.new ≡ view_numbers view }
+// The numbers of a view: its layout's, and behind them its own.
+#[tactic(auto, unfolding(crate::specs::BoundaryNumbers::view_numbers, crate::specs::BoundaryNumbers::layout_numbers))]
+fn view_numbers(view: View) -> [u64; VIEW_SIZE]
+    ensures { result ≡ view_numbers view }
 {
-    let protection = view.protection;
-    let range = protection_numbers(protection);
-    store_layout(view.layout, numbers);
-    numbers[PROTECTED] = range[0];
-    numbers[FIRST] = range[1];
-    numbers[END] = range[2];
-    numbers[LOCK] = view.locked as u64;
+    let [protected, first, end] = protection_numbers(view.protection);
+    let mut numbers = [0; VIEW_SIZE];
+    numbers[..LAYOUT_SIZE].copy_from_slice(&layout_numbers(view.layout));
+    numbers[LAYOUT_SIZE..].copy_from_slice(&[protected, first, end, u64::from(view.locked)]);
+    numbers
 }
 
+#[tactic(auto, unfolding(crate::specs::BoundaryNumbers::protection_from))]
 fn protection_from(protected: u64, first: u64, end: u64) -> Protection
     ensures { result ≡ protection_from protected first end }
 {
-    if protected == 0 {
-        return Protection::Unprotected;
-    }
-    Protection::Protected(first, end)
+    (protected != 0).then_some((first, end))
 }
 
+#[tactic(auto, unfolding(crate::specs::BoundaryNumbers::protection_numbers))]
 fn protection_numbers(protection: Protection) -> [u64; 3]
     ensures { result ≡ protection_numbers protection }
 {
     match protection {
-        Protection::Unprotected => [0; 3],
-        Protection::Protected(first, end) => [1, first, end],
+        None => [0; 3],
+        Some((first, end)) => [1, first, end],
     }
 }

@@ -4,8 +4,7 @@
 #![tactic(auto)]
 
 ghost use Rattle.std.specs.Prelude.{◌≡◌};
-ghost use Rattle.answers.specs.Answers.{numbered_refusal};
-ghost use Rattle.layout.specs.Opened.{opened_refusal};
+ghost use Rattle.answers.specs.Answers.{refusal_number};
 ghost use Rattle.locations.specs.Locations.{located};
 ghost use Rattle.opening.specs.Opening.{opened};
 ghost use Rattle.boundary_answers.specs.BoundaryAnswers.{numbered_left};
@@ -15,7 +14,7 @@ use boundary_numbers::LAYOUT_SIZE;
 
 // Where the header of a location code lies in a host of this size.
 pub fn location(code: u8, host_size: u64, offset: &mut [u64; 1]) -> u64
-    ensures value { result ≡ numbered_refusal (located code host_size) }
+    ensures value { result ≡ refusal_number (located code host_size) }
     ensures offset_after { offset.new ≡ numbered_left (located code host_size) offset.old }
 {
     boundary_answers::give_number(locations::locate(code, host_size), offset)
@@ -24,7 +23,7 @@ pub fn location(code: u8, host_size: u64, offset: &mut [u64; 1]) -> u64
 // The layout of the first candidate that is accepted. candidates holds deciphered headers of 512
 // bytes, codes a location code for each.
 pub fn open(candidates: &[u8], codes: &[u8], host_size: u64, layout: &mut [u64; LAYOUT_SIZE]) -> u64
-    ensures value { result ≡ opened_refusal (opened candidates.now codes.now host_size) }
+    ensures value { result ≡ refusal_number (opened candidates.now codes.now host_size) }
     ensures layout_after { layout.new ≡ opened_left (opened candidates.now codes.now host_size) layout.old }
 {
     boundary_numbers::give_layout(opening::open(candidates, codes, host_size), layout)

@@ -2,22 +2,24 @@
 use Prim.Native.Nat.{ℕ}
 use mathlib.Core.{Path.{◌≡◌, sym, ap, subst, ◌∙◌}, List.List}
 use lib.ListN.{length}
-use Rattle.answers.specs.declared.Answer.{Answer}
 use Rattle.plaintext.specs.Plaintext.{plain_filled_by, plain_written_by, PlainReadPost, PlainWritePost}
-use Rattle.plaintext.specs.declared.{KeyedOutcome.KeyedOutcome, KeyedView.KeyedView}
+use Rattle.plaintext.specs.declared.KeyedView.{KeyedView}
 use Rattle.view.specs.{Outcomes.{view_read, view_write}, declared.View.View}
 use Rattle.boundary_numbers.specs.BoundaryNumbers.{view_from}
 use Rattle.boundary_answers.specs.BoundaryAnswers.{view_left, Tells}
 use Rattle.boundary_plaintext.specs.BoundaryPlaintext.{PlainReadCall, PlainWriteCall}
+use Rattle.std.specs.Prelude.{⊤}
+use Rattle.answers.specs.Answers.{Answer}
+use Rattle.view.specs.declared.Outcome.{Outcome}
 
-module _ (numbers key image : List ℕ) (first count : ℕ) (buffer : List ℕ) (view : View) (same : view ≡ view_from numbers) (outcome : KeyedOutcome)
+module _ (numbers key image : List ℕ) (first count : ℕ) (buffer : List ℕ) (view : View) (same : view ≡ view_from numbers) (outcome : Outcome KeyedView ⊤)
     (before sector : List ℕ) (number : ℕ) (told : Tells outcome.answer before number sector) where
   abbrev keyed : KeyedView
   keyed = record { view = view; key = key }
 
   -- what is said of the answer that was given is said of the one that the numbers' view gives
-  told_of : (answer : View → Answer) → outcome.answer ≡ answer view → Tells (answer (view_from numbers)) before number sector
-  told_of answer e = subst (λ (a : Answer). Tells a before number sector) (e ∙ ap answer same) told
+  told_of : (answer : View → Answer ⊤) → outcome.answer ≡ answer view → Tells (answer (view_from numbers)) before number sector
+  told_of answer e = subst (λ (a : Answer ⊤). Tells a before number sector) (e ∙ ap answer same) told
 
   pub plain_read_call : (filled : List ℕ) → PlainReadPost keyed image first count buffer outcome filled
       → PlainReadCall numbers key image first count buffer before number filled sector

@@ -1,5 +1,5 @@
-// Reads and writes of plaintext on a view with a borrowed key, over numbers and slices: answers, sectors and locks
-// as those of raw ones.
+// Reads and writes of plaintext on a view with a borrowed key, over numbers and slices, as C passes them: answers,
+// sectors and locks as those of raw ones.
 // Assumes nothing; no public function has a `requires`.
 #![tactic(auto)]
 

@@ -1,12 +1,13 @@
 -- What two extents share, and what of one lies past an end: the laws that crates above read an overlap by.
 -- Assumes nothing.
-use Prim.Native.Nat.{ℕ, ◌+◌, ◌-◌, ◌≤◌, ◌<◌}
+use Prim.Native.Nat.{ℕ, ◌+◌, ◌-◌, ◌≤◌, ◌<◌, max}
 use native.Mathlib.Omega.{arith}
 use mathlib.Core.{Path.{◌≡◌, refl, sym, ap}, Bool.{Bool, true, false, true≢false, ◌&&◌, cond}}
 use lib.Dec.{leb, ltb}
 use borrow.Author.Tests.{leb-true, leb-false, ltb-true, ltb-false, le-leb, lt-leb, lt-ltb, le-ltb}
-use Rattle.extent.specs.{Extents.{has, larger, overlap, beyond}, declared.{Extent.Extent, Overlap.Overlap}}
-use Rattle.extent.specs.declared.Overlap.TheVariants.{Apart, From}
+use Rattle.extent.specs.Extents.{has, larger, overlap, beyond}
+use Rattle.extent.specs.declared.Extent.{Extent}
+use Rattle.std.specs.Prelude.{Some, None, Option}
 
 -- from the first sector on, what is left of the count tells the end
 pub ltb_sub : (sector first count : ℕ) → first ≤ sector → ltb (sector - first) count ≡ ltb sector (first + count)
@@ -24,6 +25,15 @@ leb_rest first count end fits = go (leb (first + count) end) refl
     go true e = le-leb first (end - count) (omega (arith, leb-true (first + count) end e))
     go false e = lt-leb first (end - count) (omega (arith, leb-false (first + count) end e))
 
+-- the larger of two numbers, as a number's own method says it
+pub max_larger : (a b : ℕ) → max a b ≡ larger a b
+unfolding larger
+max_larger a b = go (ltb a b) refl
+  where
+    go : (t : Bool) → ltb a b ≡ t → max a b ≡ cond t b a
+    go true e = omega (arith, ltb-true a b e)
+    go false e = omega (arith, ltb-false a b e)
+
 -- a sector is an extent's
 pub record In (extent : Extent) (sector : ℕ) : Type 0 where
   pub starts : extent.first ≤ sector
@@ -40,9 +50,9 @@ module _ (extent : Extent) (sector : ℕ) (starts : extent.first ≤ sector) whe
   has_not e = ltb-false sector (extent.first + extent.count) (rw (le-leb extent.first sector starts) at e)
 
 -- two extents by what they share
-pub data Shared (a b : Extent) : Overlap → Type 0 where
-  none : ((sector : ℕ) → In a sector → In b sector → ⊥) → Shared a b Apart
-  least : (sector : ℕ) → In a sector → In b sector → ((other : ℕ) → In a other → In b other → sector ≤ other) → Shared a b (From sector)
+pub data Shared (a b : Extent) : Option ℕ → Type 0 where
+  none : ((sector : ℕ) → In a sector → In b sector → ⊥) → Shared a b None
+  least : (sector : ℕ) → In a sector → In b sector → ((other : ℕ) → In a other → In b other → sector ≤ other) → Shared a b (Some sector)
 
 module _ (a b : Extent) where
   abbrev sector : ℕ
@@ -76,7 +86,7 @@ module _ (a b : Extent) where
   unfolding overlap
   overlap_shared = go (has a sector) (has b sector) refl refl
     where
-      go : (p q : Bool) → has a sector ≡ p → has b sector ≡ q → Shared a b (cond (p && q) (From sector) Apart)
+      go : (p q : Bool) → has a sector ≡ p → has b sector ≡ q → Shared a b (cond (p && q) (Some sector) None)
       go true true e f =
           least sector (record { starts = larger_left; ends = has_ends a sector larger_left e })
           (record { starts = larger_right; ends = has_ends b sector larger_right f })
@@ -87,25 +97,25 @@ module _ (a b : Extent) where
           absurd (omega (arith, has_not a sector larger_left e, larger_least other p.starts q.starts, p.ends))
 
 -- something in the way is not nothing
-is_apart : Overlap → Bool
-is_apart Apart = true
-is_apart (From sector) = false
+is_apart : Option ℕ → Bool
+is_apart None = true
+is_apart (Some found) = false
 
-pub from_apart : {A : Type 0} (sector : ℕ) → From sector ≡ Apart → A
+pub from_apart : {A : Type 0} (found : ℕ) → Some found ≡ None → A
 unfolding is_apart
-from_apart sector e = absurd (true≢false (sym (ap is_apart e)))
+from_apart found e = absurd (true≢false (sym (ap is_apart e)))
 
 -- nothing of an extent lies past an end exactly where the extent ends by there
 module _ (extent : Extent) (end : ℕ) where
-  pub beyond_apart : beyond extent end ≡ Apart → extent.first + extent.count ≤ end
+  pub beyond_apart : beyond extent end ≡ None → extent.first + extent.count ≤ end
   unfolding beyond
   beyond_apart = go (leb (extent.first + extent.count) end) refl
     where
-      go : (t : Bool) → leb (extent.first + extent.count) end ≡ t → cond t Apart (From (larger extent.first end)) ≡ Apart
+      go : (t : Bool) → leb (extent.first + extent.count) end ≡ t → cond t None (Some (larger extent.first end)) ≡ None
           → extent.first + extent.count ≤ end
       go true e f = leb-true (extent.first + extent.count) end e
       go false e f = from_apart (larger extent.first end) f
 
-  pub apart_beyond : extent.first + extent.count ≤ end → beyond extent end ≡ Apart
+  pub apart_beyond : extent.first + extent.count ≤ end → beyond extent end ≡ None
   unfolding beyond
   apart_beyond h = simp (le-leb (extent.first + extent.count) end h)

@@ -4,13 +4,10 @@ use Prim.Native.Nat.{ℕ}
 use native.Mathlib.Omega.{arith}
 use mathlib.Core.{Path.{◌≡◌, refl, ◌∙◌}, List.List}
 use lib.ListN.{length}
-use Rattle.answers.specs.Answers.{numbered_refusal, answer_refusal, answer_sector, placement_refusal, written_refusal}
-use Rattle.layout.specs.Opened.{opened_refusal}
+use Rattle.answers.specs.Answers.{answer_sector, refusal_number}
 use Rattle.key_bytes.specs.KeyBytes.{keys_offset, keys_size}
 use Rattle.opening.proofs.OpenedLaws.{opened_inside}
 use Rattle.tweaks.specs.Tweaks.{tweak_of, tweak_number}
-use Rattle.making.specs.Views.{viewed_refusal}
-use Rattle.protection.specs.declared.Protection.{Protection, TheVariants.{Unprotected, Protected}}
 use Rattle.boundary_numbers.specs.BoundaryNumbers.{layout_numbers, layout_from, protection_numbers, protection_from, view_numbers, view_from}
 use Rattle.boundary_answers.specs.BoundaryAnswers.{numbered_left}
 use Rattle.boundary_numbers.specs.BoundaryNumbers.{opened_left, viewed_left, block_left}
@@ -22,25 +19,21 @@ use Rattle.guarantees.proofs.BoundaryNumbers.{view_of_numbers, set_last}
 use Rattle.guarantees.proofs.BoundaryZero.{located_zero, opened_zero, header_zero, host_sector_zero, user_sector_zero}
 use Rattle.guarantees.proofs.BoundaryZero.{plain_view_zero, protected_view_zero, read_zero, write_zero}
 use Rattle.header_claims.proofs.Reflects.{is_false, reflects_eqb}
+use Rattle.std.specs.Prelude.{Some, None}
+use Rattle.protection.specs.Protection.{Protection}
 
 pub tells_numbers : TellsNumbers
-unfolding opened_refusal numbered_refusal viewed_refusal written_refusal answer_refusal placement_refusal
+unfolding refusal_number
 tells_numbers =
     record {
       opened_accepted = λ layout. refl;
-      opened_refused = λ number. refl;
+      opened_refused = λ refusal. refl;
       numbered_accepted = λ number. refl;
-      numbered_refused = λ number. refl;
+      numbered_refused = λ refusal. refl;
       made_accepted = λ view. refl;
-      made_refused = λ number. refl;
-      header_done = refl;
-      header_refused = λ number. refl;
-      access_accepted = refl;
-      access_refused = λ number. refl;
-      access_refused_at = λ number sector. refl;
-      extent_accepted = λ offset. refl;
-      extent_refused = λ number. refl;
-      extent_refused_at = λ number sector. refl;
+      made_refused = λ refusal. refl;
+      done = refl;
+      refused = λ refusal. refl;
     }
 
 pub returns_zero : ReturnsZero
@@ -66,8 +59,8 @@ orders_numbers host kind magic version program start size candidate sectors prot
 
 protection_stored : (protection : Protection) → protection_numbers protection ≡ stored_protection protection
 unfolding protection_numbers
-protection_stored Unprotected = refl
-protection_stored (Protected first end) = refl
+protection_stored None = refl
+protection_stored (Some (first, end)) = refl
 
 pub stores_answers : (before : List ℕ) → StoresAnswers before
 unfolding numbered_left opened_left keys_left keys_offset keys_size block_left viewed_left view_left offset_left sector_left answer_sector layout_numbers view_numbers
@@ -89,7 +82,6 @@ stores_answers before =
       same_view = λ image first count buffer other written left sector number f call. call.locks ∙ rw (is_false (reflects_eqb number 18) f);
       offset = λ offset. refl;
       no_offset = λ number. refl;
-      no_offset_at = λ number sector. refl;
       sector = λ number sector other after told. told.names;
       no_sector = λ number other after told. told.names;
       accepted_sector = λ other after told. told.names;

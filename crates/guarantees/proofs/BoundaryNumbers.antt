@@ -5,12 +5,13 @@ use native.Mathlib.Omega.{arith}
 use mathlib.Core.{Path.{◌≡◌, refl, sym, ap, ◌∙◌}, Bool.{Bool, true, false, cond}, List.{List, [], ◌∷◌, ◌++◌}}
 use lib.{Dec.{ltb, eqb}, ListN.{length, get_or, set, take, drop}, Seq.{get_or-set_same, get_or-set_other, set_split, drop-length}}
 use borrow.Author.Tests.{ltb-true}
-use Rattle.answers.specs.{Answers.{answer_refusal, locked_after}, declared.Answer.{Answer}}
+use Rattle.answers.specs.Answers.{locked_after, Answer, refusal_number}
 use Rattle.layout.specs.declared.Layout.{Layout}
-use Rattle.protection.specs.declared.Protection.{Protection, TheVariants.{Unprotected, Protected}}
 use Rattle.view.specs.{declared.View.View, Outcomes.after}
 use Rattle.boundary_numbers.specs.BoundaryNumbers.{lock_index, layout_numbers, layout_from, protection_numbers, protection_from, view_numbers, view_from}
 use Rattle.boundary_answers.specs.BoundaryAnswers.{view_left}
+use Rattle.std.specs.Prelude.{⊤, Some, None}
+use Rattle.protection.specs.Protection.{Protection}
 
 -- a view of its three parts
 abbrev view_with : Layout → Protection → Bool → View
@@ -19,10 +20,10 @@ view_with layout protection locked = record { layout = layout; protection = prot
 view_with_of_numbers : (layout : Layout) (protection : Protection) (locked : Bool)
     → view_from (view_numbers (view_with layout protection locked)) ≡ view_with layout protection locked
 unfolding view_from view_numbers layout_from layout_numbers protection_from protection_numbers
-view_with_of_numbers layout Unprotected true = refl
-view_with_of_numbers layout Unprotected false = refl
-view_with_of_numbers layout (Protected first end) true = refl
-view_with_of_numbers layout (Protected first end) false = refl
+view_with_of_numbers layout None true = refl
+view_with_of_numbers layout None false = refl
+view_with_of_numbers layout (Some (first, end)) true = refl
+view_with_of_numbers layout (Some (first, end)) false = refl
 
 pub view_of_numbers : (view : View) → view_from (view_numbers view) ≡ view
 view_of_numbers view = view_with_of_numbers view.layout view.protection view.locked
@@ -44,10 +45,10 @@ module _ (numbers : List ℕ) (h : lock_index < length numbers) where
   view_of_cond_set false = refl
 
 -- the numbers that a write leaves tell the view that it hands back
-pub view_of_left : (answer : Answer) (numbers : List ℕ) → length numbers ≡ 13
-    → view_from (view_left (answer_refusal answer) numbers) ≡ after (view_from numbers) answer
+pub view_of_left : (answer : Answer ⊤) (numbers : List ℕ) → length numbers ≡ 13
+    → view_from (view_left (refusal_number answer) numbers) ≡ after (view_from numbers) answer
 unfolding view_left after locked_after
-view_of_left answer numbers h = view_of_cond_set numbers (omega arith) (eqb (answer_refusal answer) 18)
+view_of_left answer numbers h = view_of_cond_set numbers (omega arith) (eqb (refusal_number answer) 18)
 
 -- a list with another last number
 pub set_last : (l : List ℕ) (n v : ℕ) → length l ≡ suc n → set l n v ≡ take n l ++ (v ∷ [])

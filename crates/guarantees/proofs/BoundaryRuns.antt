@@ -4,8 +4,6 @@ use mathlib.Core.{Path.{◌≡◌, refl, ap, ◌∙◌}, Bool.{false, cond}, Lis
 use lib.ListN.{length}
 use Rattle.layout.specs.declared.Layout.{Layout}
 use Rattle.view.specs.declared.View.{View}
-use Rattle.making.specs.declared.Viewed.TheVariants.{Made}
-use Rattle.protection.specs.declared.Protection.{Protection, TheVariants.{Unprotected, Protected}}
 use Rattle.boundary_numbers.specs.BoundaryNumbers.{viewed_left}
 use Rattle.model.specs.{Model.{State, state_with, Reply}, Sides.{Side, outer, hidden, at, each_with, OnSide}}
 use Rattle.model.proofs.RunLaws.{run_exists, run_carries}
@@ -17,6 +15,8 @@ use Rattle.access_claims.specs.{Table.Call, Views.{plain, protecting}}
 use Rattle.guarantees.proofs.Boundary.{stores_answers}
 use Rattle.guarantees.proofs.NumberSteps.{step_is, answered}
 use Rattle.access_claims.proofs.Views.{makes_views}
+use Rattle.std.specs.Prelude.{Ok, Some, None}
+use Rattle.protection.specs.Protection.{Protection}
 
 step_exists : (state : State KeyedNumbers) (call : Call) → (given : Reply Said) × (after : State KeyedNumbers) × NumberStep state call given after
 step_exists state call = let one = answered state call (0 ∷ []) in (one.0, one.1, (0 ∷ [], one.2))
@@ -36,17 +36,17 @@ carries_runs numbers =
     }
 
 -- the numbers stored for a view that is made
-stored_thirteen : (view : View) (before : List ℕ) → length (viewed_left (Made view) before) ≡ 13
+stored_thirteen : (view : View) (before : List ℕ) → length (viewed_left (Ok view) before) ≡ 13
 stored_thirteen view before = ap length ((stores_answers before).view view) ∙ go view.protection
   where
     go : (protection : Protection) → length (stored_layout view.layout ++ stored_protection protection ++ cond view.locked 1 0 ∷ []) ≡ 13
-    go Unprotected = refl
-    go (Protected first end) = refl
+    go None = refl
+    go (Some (first, end)) = refl
 
 module _ (outer_layout hidden_layout : Layout) (outer_key hidden_key before other : List ℕ) where
   both_thirteen : (side : Side) → length (at {A = KeyedNumbers} side (record {
-    outer_one = record { numbers = viewed_left (Made (protecting outer_layout hidden_layout false)) before; key = outer_key };
-    hidden_one = record { numbers = viewed_left (Made (plain hidden_layout false)) other; key = hidden_key };
+    outer_one = record { numbers = viewed_left (Ok (protecting outer_layout hidden_layout false)) before; key = outer_key };
+    hidden_one = record { numbers = viewed_left (Ok (plain hidden_layout false)) other; key = hidden_key };
   })).numbers ≡ 13
   unfolding at
   both_thirteen outer = stored_thirteen (protecting outer_layout hidden_layout false) before

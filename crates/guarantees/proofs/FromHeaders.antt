@@ -3,7 +3,7 @@ use Prim.Native.Nat.{ℕ, zero, suc, ◌<◌}
 use native.Mathlib.Omega.{arith}
 use mathlib.Core.{Path.{◌≡◌, sym, ◌∙◌, subst}, List.{List, [], ◌∷◌}}
 use lib.{ListN.length, Seq.take_all}
-use Rattle.layout.specs.declared.{Layout.Layout, Opened.TheVariants.Accepted}
+use Rattle.layout.specs.declared.Layout.{Layout}
 use Rattle.opening.specs.Opening.{opened}
 use Rattle.guarantees.specs.FromHeaders.{HasArea, FromHeaders}
 use Rattle.header_claims.specs.Header.{Tells}
@@ -13,6 +13,7 @@ use Rattle.guarantees.proofs.Interleaving.{demand_3}
 use Rattle.header_claims.proofs.Opening.{opens_exactly_when}
 use Rattle.header_claims.proofs.SectorMap.{opened_sound_lem}
 use Rattle.access_claims.proofs.Views.{makes_views}
+use Rattle.std.specs.Prelude.{Ok}
 
 -- of one candidate, the first is all of it
 one_candidate : (h : List ℕ) → length h ≡ 512 → candidate h 0 ≡ h
@@ -20,7 +21,7 @@ unfolding candidate
 one_candidate h size = take_all 512 h (omega arith)
 
 -- what an opened header tells, whose index can only be 0
-header_tells : (h : List ℕ) (code host_size : ℕ) (layout : Layout) → opened h (code ∷ []) host_size ≡ Accepted layout
+header_tells : (h : List ℕ) (code host_size : ℕ) (layout : Layout) → opened h (code ∷ []) host_size ≡ Ok layout
     → Tells (kind_of code) host_size 0 h layout
 header_tells h code host_size layout e =
     let says = (opens_exactly_when h (code ∷ []) host_size).only_accepts layout e in

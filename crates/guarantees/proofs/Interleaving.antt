@@ -3,8 +3,7 @@
 use Prim.Native.Nat.{ℕ}
 use mathlib.Core.{Path.{◌≡◌, sym, ap, subst, ◌∙◌}, Bool.Bool, List.List}
 use Rattle.layout.specs.declared.Layout.{Layout}
-use Rattle.answers.specs.{Answers.is_accepted, declared.Answer.Answer}
-use Rattle.protection.specs.declared.Protection.TheVariants.{Unprotected}
+use Rattle.answers.specs.Answers.{is_accepted, Answer}
 use Rattle.plaintext.specs.declared.KeyedView.{KeyedView}
 use Rattle.model.specs.{Model.{Rules, State, state_with, Reply}, Sides.{Side, outer, hidden, Both, at, each_with, OnSide, sided}}
 use Rattle.model.proofs.Independence.{run_independent}
@@ -19,15 +18,16 @@ use Rattle.access_claims.proofs.InTheWay.{names_sectors}
 use Rattle.access_claims.proofs.NestLaws.{Nest, plain_sound_lem, protecting_sound}
 use Rattle.guarantees.proofs.ViewRulesLaws.{sides_lawful, sides_apart}
 use Rattle.guarantees.proofs.StepLaws.{view_models, step_exists}
+use Rattle.std.specs.Prelude.{⊤, None}
 
 -- a call that keeps its contract names what its view says
-step_names : (state after : State KeyedView) (given : Reply Answer) (call : Call) → Step state call given after
+step_names : (state after : State KeyedView) (given : Reply (Answer ⊤)) (call : Call) → Step state call given after
     → NamesFirst state.held.view.layout state.held.view.protection call.first given.answer
 unfolding KeepsContract
 step_names state after given call kept =
     go call.form call.operation (names_sectors state.held.view state.image call.first call.count call.buffer) kept
   where
-    says : (answer : Answer) → given.answer ≡ answer → NamesFirst state.held.view.layout state.held.view.protection call.first answer
+    says : (answer : Answer ⊤) → given.answer ≡ answer → NamesFirst state.held.view.layout state.held.view.protection call.first answer
         → NamesFirst state.held.view.layout state.held.view.protection call.first given.answer
     says answer e = subst (NamesFirst state.held.view.layout state.held.view.protection call.first) (sym e)
 
@@ -40,7 +40,7 @@ step_names state after given call kept =
     go plaintext writes names k = says _ k.0.answers names.writes
 
 module _ (outer_layout hidden_layout : Layout) (outer_key hidden_key : List ℕ) (nest : Nest outer_layout hidden_layout) where
-  abbrev sides : Side → Rules Call Bool Answer
+  abbrev sides : Side → Rules Call Bool (Answer ⊤)
   sides = side_rules outer_layout hidden_layout outer_key hidden_key
 
   abbrev keyed : Side → Bool → KeyedView
@@ -49,10 +49,10 @@ module _ (outer_layout hidden_layout : Layout) (outer_key hidden_key : List ℕ)
   side_models : (side : Side) → Models (sides side) (keyed side) Step
   unfolding side_rules side_layout side_protection side_view side_key side_keyed
   side_models outer = view_models outer_layout (area hidden_layout) outer_key (λ locked. protecting_sound outer_layout hidden_layout locked nest)
-  side_models hidden = view_models hidden_layout Unprotected hidden_key (λ locked. plain_sound_lem hidden_layout locked nest.hidden_sound)
+  side_models hidden = view_models hidden_layout None hidden_key (λ locked. plain_sound_lem hidden_layout locked nest.hidden_sound)
 
   -- what a side's call names, by its view
-  side_names : (side : Side) (locked : Bool) (first : ℕ) (answer : Answer)
+  side_names : (side : Side) (locked : Bool) (first : ℕ) (answer : Answer ⊤)
       → NamesFirst (keyed side locked).view.layout (keyed side locked).view.protection first answer
       → NamesFirst (side_layout outer_layout hidden_layout outer_key hidden_key side) (side_protection outer_layout hidden_layout outer_key hidden_key side) first answer
   unfolding side_keyed side_view side_layout side_protection

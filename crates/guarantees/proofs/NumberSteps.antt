@@ -2,7 +2,6 @@
 use Prim.Native.Nat.{ℕ}
 use mathlib.Core.{Path.{◌≡◌, refl, ap, ◌∙◌}, List.List}
 use lib.ListN.{length}
-use Rattle.answers.specs.{Answers.answer_refusal, declared.Answer.Answer}
 use Rattle.view.specs.Outcomes.{view_read, view_write, after}
 use Rattle.boundary_numbers.specs.BoundaryNumbers.{view_from}
 use Rattle.boundary_answers.specs.BoundaryAnswers.{view_left, Tells}
@@ -12,13 +11,15 @@ use Rattle.guarantees.specs.Steps.{KeepsContract}
 use Rattle.access_claims.specs.Table.{Operation, reads, writes, Form, raw, plaintext, Call}
 use Rattle.guarantees.proofs.BoundaryNumbers.{view_of_left}
 use Rattle.guarantees.proofs.SaidLaws.{length_left, read_told, write_told, told_back}
+use Rattle.std.specs.Prelude.{⊤}
+use Rattle.answers.specs.Answers.{Answer, refusal_number}
 
 -- the answers that calls on a view's numbers tell
 module _ (state : State KeyedNumbers) (first count : ℕ) (buffer : List ℕ) where
-  abbrev reading : Answer
+  abbrev reading : Answer ⊤
   reading = view_read (view_from state.held.numbers) (length state.image) first count (length buffer)
 
-  abbrev writing : Answer
+  abbrev writing : Answer ⊤
   writing = view_write (view_from state.held.numbers) (length state.image) first count (length buffer)
 
   read_says : {before sector : List ℕ} {number : ℕ} → Tells reading before number sector
@@ -34,8 +35,8 @@ module _ (state : State KeyedNumbers) (first count : ℕ) (buffer : List ℕ) wh
       → length state.held.numbers ≡ 13 → (view_from left ≡ after (view_from state.held.numbers) writing) × (length left ≡ 13)
   write_leaves {left = left} tells locks thirteen =
       let numbers = state.held.numbers in
-      let e : left ≡ view_left (answer_refusal writing) numbers = locks ∙ ap (λ (n : ℕ). view_left n numbers) tells.returns in
-      (ap view_from e ∙ view_of_left writing numbers thirteen, ap length e ∙ length_left (answer_refusal writing) numbers ∙ thirteen)
+      let e : left ≡ view_left (refusal_number writing) numbers = locks ∙ ap (λ (n : ℕ). view_left n numbers) tells.returns in
+      (ap view_from e ∙ view_of_left writing numbers thirteen, ap length e ∙ length_left (refusal_number writing) numbers ∙ thirteen)
 
 -- so each call on the numbers is one on the view that they tell
 pub step_is : (state after : State KeyedNumbers) (form : Form) (operation : Operation) (first count : ℕ) (buffer before : List ℕ) (given : Reply Said)

@@ -5,11 +5,9 @@ use native.Mathlib.{Nat.mod-one, Omega.arith}
 use mathlib.Core.{Path.{◌≡◌, refl, sym, ap, ◌∙◌}, Bool.{Bool, true, false, ◌&&◌, not, and-true}, List.{List, [], ◌∷◌}}
 use lib.{Dec.{leb, eqb}, ListN.length}
 use borrow.Author.Tests.{eq-eqb}
-use Rattle.answers.specs.{Answers.answer_refusal, declared.Answer.{Answer, TheVariants.Accepted}}
 use Rattle.answers.proofs.AnswerLaws.{line_holds}
-use Rattle.extent.specs.declared.Overlap.{Overlap, TheVariants.{Apart, From}}
 use Rattle.layout.specs.Rules.{standard, hidden, multiple, min_host_size, max_host_size, host_size_rule, sector_size_rule, sectors_rule, data_area_rule, sound}
-use Rattle.layout.specs.declared.{Layout.Layout, Opened.Opened}
+use Rattle.layout.specs.declared.Layout.{Layout}
 use Rattle.layout.proofs.RuleLaws.{and_true_left}
 use Rattle.locations.specs.Locations.{location_of}
 use Rattle.header.specs.Header.{fields_of, magic_of, area_rule, accepted_layout, judge}
@@ -18,11 +16,13 @@ use Rattle.new_header.specs.NewHeader.{new_fields}
 use Rattle.header_writing.specs.HeaderWriting.{header_answer}
 use Rattle.protection.specs.Protection.{protection_rule, sound_protection}
 use Rattle.pairing.specs.Pairs.{nests, paired}
-use Rattle.protection.specs.declared.Protection.{Protection}
 use Rattle.judgement.specs.Judging.{alignment_rule, blocked_by, end_answer, checked, lock_answer, read_answer, write_answer}
 use Rattle.header_claims.specs.{Header.fields_at, Opening.candidate}
 use Rattle.guarantees.specs.SameAt512.{data_area_before, sound_before, paired_before, judge_before, judgements_before, opened_before}
 use Rattle.guarantees.specs.SameAt512.{header_answer_before, new_fields_before, checked_before, LayoutAt512, SameAt512}
+use Rattle.std.specs.Prelude.{Ok, Some, None, Option, ⊤}
+use Rattle.answers.specs.Answers.{Answer, refusal_number}
+use Rattle.protection.specs.Protection.{Protection}
 
 -- a host's size is a multiple of 512
 host_whole : (host_size : ℕ) → host_size_rule host_size ≡ true → eqb (host_size % 512) 0 ≡ true
@@ -38,8 +38,8 @@ by_rule true x y f g = f refl
 by_rule false x y f g = g refl
 
 -- an answer's number is not 20
-abbrev Not20 : Answer → Type 0
-Not20 answer = answer_refusal answer ≡ 20 → ⊥
+abbrev Not20 : Answer ⊤ → Type 0
+Not20 answer = refusal_number answer ≡ 20 → ⊥
 
 module _ (layout : Layout) (z : layout.sector_size ≡ 512) where
   data_area_same : host_size_rule layout.host_size ≡ true → data_area_rule layout ≡ data_area_before layout
@@ -72,14 +72,14 @@ module _ (layout : Layout) (z : layout.sector_size ≡ 512) where
   any_aligned first count = rw (z, mod-one first, mod-one count)
 
   module _ (protection : Protection) (image_size first count buffer_size : ℕ) where
-    checked_same : (later : Answer)
+    checked_same : (later : Answer ⊤)
         → checked layout protection image_size first count buffer_size later ≡ checked_before layout protection image_size first count buffer_size later
     unfolding checked sound_protection checked_before
     checked_same later = rw (sound_same, any_aligned first count)
 
     -- 20 is none of the numbers that are left
-    checked_not_20 : (later : Answer) → Not20 (end_answer layout first count later) → Not20 (checked layout protection image_size first count buffer_size later)
-    unfolding checked_before answer_refusal
+    checked_not_20 : (later : Answer ⊤) → Not20 (end_answer layout first count later) → Not20 (checked layout protection image_size first count buffer_size later)
+    unfolding checked_before refusal_number
     checked_not_20 later p =
         rw (checked_same later)
         (line_holds Not20 _ (sound_before layout && protection_rule layout protection) _ (λ e. omega (arith, e))
@@ -87,24 +87,24 @@ module _ (layout : Layout) (z : layout.sector_size ≡ 512) where
         (line_holds Not20 _ (leb count 128) _ (λ e. omega (arith, e))
         (line_holds Not20 _ (eqb buffer_size (count * 512)) _ (λ e. omega (arith, e)) p))))
 
-  blocked_not_20 : (number : ℕ) (way : Overlap) (later : Answer) → (number ≡ 20 → ⊥) → Not20 later → Not20 (blocked_by number way later)
-  unfolding blocked_by answer_refusal
-  blocked_not_20 number Apart later f p = p
-  blocked_not_20 number (From sector) later f p = f
+  blocked_not_20 : (number : ℕ) (way : Option ℕ) (later : Answer ⊤) → (number ≡ 20 → ⊥) → Not20 later → Not20 (blocked_by number way later)
+  unfolding blocked_by refusal_number
+  blocked_not_20 number None later f p = p
+  blocked_not_20 number (Some sector) later f p = f
 
-  end_not_20 : (first count : ℕ) (later : Answer) → Not20 later → Not20 (end_answer layout first count later)
+  end_not_20 : (first count : ℕ) (later : Answer ⊤) → Not20 later → Not20 (end_answer layout first count later)
   unfolding end_answer
   end_not_20 first count later p = blocked_not_20 16 _ later (λ e. omega (arith, e)) p
 
   lock_not_20 : (protection : Protection) (locked : Bool) (first count : ℕ) → Not20 (lock_answer layout protection locked first count)
-  unfolding lock_answer answer_refusal
+  unfolding lock_answer refusal_number
   lock_not_20 protection locked first count =
-      line_holds Not20 _ (not locked) _ (λ e. omega (arith, e)) (blocked_not_20 18 _ Accepted (λ e. omega (arith, e)) (λ e. omega (arith, e)))
+      line_holds Not20 _ (not locked) _ (λ e. omega (arith, e)) (blocked_not_20 18 _ (Ok tt) (λ e. omega (arith, e)) (λ e. omega (arith, e)))
 
   module _ (protection : Protection) (image_size first count buffer_size : ℕ) where
     read_not_20 : Not20 (read_answer layout protection image_size first count buffer_size)
-    unfolding read_answer answer_refusal
-    read_not_20 = checked_not_20 protection image_size first count buffer_size Accepted (end_not_20 first count Accepted (λ e. omega (arith, e)))
+    unfolding read_answer refusal_number
+    read_not_20 = checked_not_20 protection image_size first count buffer_size (Ok tt) (end_not_20 first count (Ok tt) (λ e. omega (arith, e)))
 
     write_not_20 : (locked : Bool) → Not20 (write_answer layout protection locked image_size first count buffer_size)
     unfolding write_answer
@@ -129,7 +129,7 @@ layout_at_512 layout z =
       pair = λ hidden_layout. pair_same layout hidden_layout z;
       writer = writer_same layout z;
       written = written_same layout z;
-      reads = λ protection image_size first count buffer_size. checked_same layout z protection image_size first count buffer_size Accepted;
+      reads = λ protection image_size first count buffer_size. checked_same layout z protection image_size first count buffer_size (Ok tt);
       writes = λ protection locked image_size first count buffer_size.
           checked_same layout z protection image_size first count buffer_size (lock_answer layout protection locked first count);
       reads_all = read_not_20 layout z;
@@ -151,7 +151,7 @@ unfolding judgements judgements_before candidate candidate_at
 judgements_same candidates host_size index [] host z = refl
 judgements_same candidates host_size index (code ∷ codes) host z =
     rw (judge_same (location_of code).kind host_size index (candidate_at index candidates) host (z index (omega arith) (omega arith)))
-    (ap (λ (rest : List Opened). judge_before (location_of code).kind host_size index (candidate_at index candidates) ∷ rest)
+    (ap (λ (rest : List (Answer Layout)). judge_before (location_of code).kind host_size index (candidate_at index candidates) ∷ rest)
     (judgements_same candidates host_size (suc index) codes host λ i from inside. z i (omega arith) (omega arith)))
 
 opened_same : (candidates codes : List ℕ) (host_size : ℕ) → ((i : ℕ) → i < length codes → (fields_at (candidate candidates i)).sector_size ≡ 512)

@@ -3,11 +3,9 @@
 use Prim.Native.Nat.{ℕ}
 use mathlib.Core.{Path.{◌≡◌, refl, sym, ap, ◌∙◌}, Bool.Bool, List.List}
 use lib.ListN.{length}
-use Rattle.answers.specs.declared.Answer.{Answer}
 use Rattle.layout.specs.declared.Layout.{Layout}
 use Rattle.view.specs.declared.View.{View}
 use Rattle.plaintext.specs.declared.KeyedView.{KeyedView}
-use Rattle.protection.specs.declared.Protection.{Protection}
 use Rattle.model.specs.Model.{Rules, State, state_with, Reply, judged, buffer_after, image_after, reply, next}
 use Rattle.model.proofs.RunLaws.{Agrees, Models}
 use Rattle.access_claims.specs.ReferenceModel.{is_write, first_protected, lock_left, view_rules}
@@ -16,6 +14,9 @@ use Rattle.access_claims.specs.{Table.{Operation, reads, writes, Form, raw, plai
 use Rattle.access_claims.proofs.Access.{accesses_by_table}
 use Rattle.access_claims.proofs.Plaintext.{plaintext_by_table}
 use Rattle.access_claims.proofs.TableLaws.{read_lock}
+use Rattle.std.specs.Prelude.{⊤}
+use Rattle.answers.specs.Answers.{Answer}
+use Rattle.protection.specs.Protection.{Protection}
 
 module _ (layout : Layout) (protection : Protection) (key : List ℕ) where
   abbrev pub view_with : Bool → View
@@ -24,37 +25,37 @@ module _ (layout : Layout) (protection : Protection) (key : List ℕ) where
   abbrev pub keyed_with : Bool → KeyedView
   keyed_with locked = record { view = view_with locked; key = key }
 
-  abbrev rules : Rules Call Bool Answer
+  abbrev rules : Rules Call Bool (Answer ⊤)
   rules = view_rules layout protection key
 
   -- a call in a form from a model's state, its answer in the table, and what it hands back
-  module _ (form : Form) (first count : ℕ) (buffer : List ℕ) (model : State Bool) (given : Reply Answer) (after : State KeyedView) where
+  module _ (form : Form) (first count : ℕ) (buffer : List ℕ) (model : State Bool) (given : Reply (Answer ⊤)) (after : State KeyedView) where
     abbrev one : Operation → Call
     one operation = record { form = form; operation = operation; first = first; count = count; buffer = buffer }
 
-    read_agrees : (answer : Answer) → answer ≡ judged rules (one reads) model → given.answer ≡ answer → after.held ≡ keyed_with model.held
+    read_agrees : (answer : Answer ⊤) → answer ≡ judged rules (one reads) model → given.answer ≡ answer → after.held ≡ keyed_with model.held
         → given.buffer ≡ buffer_after rules (one reads) answer model.image → after.image ≡ model.image
         → Agrees rules keyed_with (one reads) model given after
     unfolding reply next judged image_after state_with view_rules is_write
     read_agrees answer tabled told same fills stays =
         let answers = told ∙ tabled in
-        let filled = fills ∙ ap (λ (answer : Answer). buffer_after rules (one reads) answer model.image) tabled in
+        let filled = fills ∙ ap (λ (answer : Answer ⊤). buffer_after rules (one reads) answer model.image) tabled in
         let unlocked = read_lock layout form first count buffer model.held (first_protected layout protection first count) (length model.image) in
         let views = same ∙ ap keyed_with (sym unlocked) in
         (λ i. record { answer = answers i; buffer = filled i }, λ i. record { image = stays i; held = views i })
 
-    write_agrees : (answer : Answer) → answer ≡ judged rules (one writes) model → given.answer ≡ answer
+    write_agrees : (answer : Answer ⊤) → answer ≡ judged rules (one writes) model → given.answer ≡ answer
         → after.held ≡ keyed_with (lock_left answer model.held) → after.image ≡ image_after rules (one writes) answer model.image
         → given.buffer ≡ buffer → Agrees rules keyed_with (one writes) model given after
     unfolding reply next judged buffer_after state_with view_rules is_write
     write_agrees answer tabled told back lays stays =
         let answers = told ∙ tabled in
-        let written = lays ∙ ap (λ (answer : Answer). image_after rules (one writes) answer model.image) tabled in
-        let views = back ∙ ap (λ (answer : Answer). keyed_with (lock_left answer model.held)) tabled in
+        let written = lays ∙ ap (λ (answer : Answer ⊤). image_after rules (one writes) answer model.image) tabled in
+        let views = back ∙ ap (λ (answer : Answer ⊤). keyed_with (lock_left answer model.held)) tabled in
         (λ i. record { answer = answers i; buffer = stays i }, λ i. record { image = written i; held = views i })
 
   module _ (sound : (locked : Bool) → SoundView (view_with locked)) where
-    agrees : (form : Form) (operation : Operation) (first count : ℕ) (buffer : List ℕ) (model : State Bool) (given : Reply Answer) (after : State KeyedView)
+    agrees : (form : Form) (operation : Operation) (first count : ℕ) (buffer : List ℕ) (model : State Bool) (given : Reply (Answer ⊤)) (after : State KeyedView)
         → KeepsContract form operation (state_with keyed_with model) first count buffer given after
         → Agrees rules keyed_with (one form first count buffer model given after operation) model given after
     unfolding KeepsContract state_with judged
@@ -83,12 +84,12 @@ module _ (layout : Layout) (protection : Protection) (key : List ℕ) where
     view_models call model given after kept =
         agrees call.form call.operation call.first call.count call.buffer model given after kept
 
-pub step_exists : (state : State KeyedView) (call : Call) → (given : Reply Answer) × (after : State KeyedView) × Step state call given after
+pub step_exists : (state : State KeyedView) (call : Call) → (given : Reply (Answer ⊤)) × (after : State KeyedView) × Step state call given after
 unfolding KeepsContract
 step_exists state call = go call.form call.operation call.first call.count call.buffer
   where
     go : (form : Form) (operation : Operation) (first count : ℕ) (buffer : List ℕ)
-        → (given : Reply Answer) × (after : State KeyedView) × KeepsContract form operation state first count buffer given after
+        → (given : Reply (Answer ⊤)) × (after : State KeyedView) × KeepsContract form operation state first count buffer given after
     go raw reads first count buffer = (
       record { answer = _; buffer = _ },
       state,

@@ -5,7 +5,6 @@ use mathlib.Core.{Path.{◌≡◌, sym, ap, ◌∙◌}, Bool.true, List.List}
 use borrow.Author.Tests.{le-leb, lt-ltb}
 use Rattle.layout.specs.declared.Layout.{Layout}
 use Rattle.sector_map.specs.SectorMap.{sectors, first_sector}
-use Rattle.protection.specs.declared.Protection.{Protection}
 use Rattle.model.specs.Sides.{Side, outer, hidden}
 use Rattle.model.proofs.Lawful.{Every, Fitting, Lawful}
 use Rattle.model.proofs.Sameness.{Apart}
@@ -19,6 +18,7 @@ use Rattle.access_claims.proofs.FormLaws.{stored_sized_lem, shown_sized_lem}
 use Rattle.access_claims.proofs.RangeLaws.{each_outside}
 use Rattle.header_claims.proofs.SoundLaws.{sound_on_sectors}
 use Rattle.access_claims.proofs.TableLaws.{Fits, tabled_accepted, later_untouched}
+use Rattle.protection.specs.Protection.{Protection}
 
 module _ (layout : Layout) (s : Sound layout) (size : ℕ) (call : Call) (fits : Fits layout size call) where
   -- the first host sector of the extent

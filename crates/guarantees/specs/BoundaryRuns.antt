@@ -1,10 +1,9 @@
 -- Demand 3 across the boundary: calls of the exported reads and writes, raw and plaintext ones, one after another on two views' numbers,
 -- each with one key, are a run in demand 3's sense. The steps are stated with `ReadCall`, `WriteCall`, `PlainReadCall` and `PlainWriteCall`,
 -- which the contracts of the exported functions cite. Assumes nothing.
-use Rattle.std.specs.Prelude.{ℕ}
+use Rattle.std.specs.Prelude.{ℕ, Ok, ⊤}
 use mathlib.Core.{Path.◌≡◌, Bool.{false, ◌||◌, cond}, List.{List, map}}
 use lib.{Dec.eqb, ListN.{length, get_or}}
-use Rattle.answers.specs.declared.Answer.{Answer, TheVariants.{Accepted, Refused, RefusedAt}}
 use Rattle.layout.specs.declared.Layout.{Layout}
 use Rattle.making.specs.Views.{plain_view, protected_view}
 use Rattle.plaintext.specs.declared.KeyedView.{KeyedView}
@@ -15,6 +14,7 @@ use Rattle.model.specs.{Model.{State, state_with, Reply}, Runs.Run, Sides.{Side,
 use Rattle.guarantees.specs.{Interleaving.views_of, Steps.Step}
 use Rattle.header_claims.specs.SectorMap.{Sound}
 use Rattle.access_claims.specs.{Table.{Operation, reads, writes, Form, raw, plaintext, Call}, Views.Nested}
+use Rattle.answers.specs.Answers.{Answer, refuse, refuse_at}
 
 -- a view's numbers, and its key
 pub record KeyedNumbers : Type 0 where
@@ -42,13 +42,13 @@ pub record Said : Type 0 where
   pub sector : List ℕ
 
 -- the answer that they tell: 0 is an acceptance, and 16 and 18 are at the sector that was left
-unfoldable pub answer_said : Said → Answer
+unfoldable pub answer_said : Said → Answer ⊤
 answer_said said =
-    cond (eqb said.number 0) Accepted
-    (cond (eqb said.number 16 || eqb said.number 18) (RefusedAt said.number (get_or said.sector 0 0)) (Refused said.number))
+    cond (eqb said.number 0) (Ok tt)
+    (cond (eqb said.number 16 || eqb said.number 18) (refuse_at said.number (get_or said.sector 0 0)) (refuse said.number))
 
 -- the reply with that answer
-unfoldable pub reply_told : Reply Said → Reply Answer
+unfoldable pub reply_told : Reply Said → Reply (Answer ⊤)
 reply_told given = record { answer = answer_said given.answer; buffer = given.buffer }
 
 -- what `ondristela_view_protected` and `ondristela_view_plain` store for an outer and a hidden layout, with two keys, and an image

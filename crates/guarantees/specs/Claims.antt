@@ -2,7 +2,6 @@
 use Rattle.std.specs.Prelude.{ℕ, List}
 use Rattle.extent.specs.declared.Extent.{Extent}
 use Rattle.layout.specs.declared.Layout.{Layout}
-use Rattle.protection.specs.declared.Protection.{Protection}
 use Rattle.view.specs.declared.View.{View}
 use Rattle.plaintext.specs.declared.KeyedView.{KeyedView}
 use Rattle.access_claims.specs.Access.{AccessesByTable}
@@ -20,6 +19,7 @@ use Rattle.access_claims.specs.{Plaintext.{PlaintextByTable, GivesBack, TellsAsR
 use Rattle.guarantees.specs.SameAt512.{SameAt512}
 use Rattle.header_claims.specs.SectorMap.{MapsExactly, OpenedIsSound}
 use Rattle.header_claims.specs.Writing.{Request, WritesExactly, LaysHeaders, ReadsBack, WritesAgain}
+use Rattle.protection.specs.Protection.{Protection}
 
 pub record Claims : Type 0 where
   -- what the others are stated in

@@ -1,11 +1,10 @@
 -- From headers to demand 3: two candidates that open at their location codes for one host size, with one sector size, and whose data areas
 -- nest, give views for which demand 3 holds, with any two keys and the data areas that the headers tell. Assumes nothing.
-use Rattle.std.specs.Prelude.{ℕ, ◌+◌, ◌≤◌}
+use Rattle.std.specs.Prelude.{ℕ, ◌+◌, ◌≤◌, Ok}
 use mathlib.Core.{Path.◌≡◌, Bool.{Bool, false}, List.{List, [], ◌∷◌}}
-use Rattle.layout.specs.declared.{Layout.Layout, Opened.TheVariants.Accepted}
+use Rattle.layout.specs.declared.Layout.{Layout}
 use Rattle.opening.specs.Opening.{opened}
 use Rattle.making.specs.Views.{plain_view, protected_view}
-use Rattle.making.specs.declared.Viewed.TheVariants.{Made}
 use Rattle.model.specs.{Model.State, Sides.Both}
 use Rattle.header_claims.specs.{Header.fields_at, Opening.kind_of}
 use Rattle.guarantees.specs.Interleaving.{Interleaved}
@@ -31,13 +30,13 @@ pub record HeadersNest (outer_header hidden_header : List ℕ) (outer_code hidde
 pub record ViewsHold (outer_header hidden_header : List ℕ) (host_size : ℕ) (outer_layout hidden_layout : Layout) : Type 0 where
   pub outer_area : HasArea host_size outer_header outer_layout
   pub hidden_area : HasArea host_size hidden_header hidden_layout
-  pub outer_view : protected_view outer_layout hidden_layout ≡ Made (protecting outer_layout hidden_layout false)
-  pub hidden_view : plain_view hidden_layout ≡ Made (plain hidden_layout false)
+  pub outer_view : protected_view outer_layout hidden_layout ≡ Ok (protecting outer_layout hidden_layout false)
+  pub hidden_view : plain_view hidden_layout ≡ Ok (plain hidden_layout false)
   pub demand3 : (outer_key hidden_key : List ℕ) (model : State (Both Bool)) (xs ys : List Call)
       → Interleaved outer_layout hidden_layout outer_key hidden_key model xs ys
 
 -- the claim, for any bytes
 pub record FromHeaders (outer_header hidden_header : List ℕ) (outer_code hidden_code host_size : ℕ) : Type 0 where
-  pub holds : (outer_layout hidden_layout : Layout) → opened outer_header (outer_code ∷ []) host_size ≡ Accepted outer_layout
-      → opened hidden_header (hidden_code ∷ []) host_size ≡ Accepted hidden_layout → HeadersNest outer_header hidden_header outer_code hidden_code
+  pub holds : (outer_layout hidden_layout : Layout) → opened outer_header (outer_code ∷ []) host_size ≡ Ok outer_layout
+      → opened hidden_header (hidden_code ∷ []) host_size ≡ Ok hidden_layout → HeadersNest outer_header hidden_header outer_code hidden_code
       → ViewsHold outer_header hidden_header host_size outer_layout hidden_layout

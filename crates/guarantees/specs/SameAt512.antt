@@ -1,13 +1,11 @@
 -- Sectors of 512 bytes (RULES.md, Sector sizes): each rule that a disk's sector size Z takes part in is, at Z 512, the rule as it was while Z
 -- had to be 512. Those rules stand here a second time, over what Z takes no part in, and the claim is an equation for each. Assumes nothing.
-use Rattle.std.specs.Prelude.{ℕ, suc, ◌*◌, ◌%◌, ◌<◌}
+use Rattle.std.specs.Prelude.{ℕ, suc, ◌*◌, ◌%◌, ◌<◌, Ok, ⊤}
 use mathlib.Core.{Path.◌≡◌, Bool.{Bool, true, ◌&&◌, cond}, List.{List, [], ◌∷◌, foldl}}
 use lib.{Dec.{leb, eqb}, ListN.length}
-use Rattle.answers.specs.Answers.{line, answer_refusal}
-use Rattle.answers.specs.declared.{Answer.{Answer, TheVariants.{Accepted, Refused}}, Written.Written}
+use Rattle.answers.specs.Answers.{line, Answer, refuse, refusal_number}
 use Rattle.layout.specs.Rules.{standard, hidden, host_size_rule, sector_size_rule, place_rule, data_area_rule, sound}
-use Rattle.layout.specs.declared.{Layout.Layout, Opened.Opened}
-use Rattle.layout.specs.declared.Opened.TheVariants as opening
+use Rattle.layout.specs.declared.Layout.{Layout}
 use Rattle.locations.specs.Locations.{code_rule, location_of}
 use Rattle.header_format.specs.Format.{truecrypt}
 use Rattle.header.specs.Header.{magic_of, fields_of, is_header, accepted_layout, judge}
@@ -18,13 +16,11 @@ use Rattle.opening.specs.Opening.{lengths_rule, codes_rule, candidate_at, furthe
 use Rattle.header_format.specs.Format.{new_lengths_rule}
 use Rattle.new_header.specs.NewHeader.{new_fields}
 use Rattle.header_writing.specs.HeaderWriting.{header_answer}
-use Rattle.answers.specs.declared.Written.TheVariants as writing
 use Rattle.protection.specs.Protection.{area_end, protection_rule}
-use Rattle.protection.specs.declared.Protection.{Protection}
-use Rattle.pairing.specs.{Pairs.paired, declared.Pairing.Pairing}
-use Rattle.pairing.specs.declared.Pairing.TheVariants as pairing
+use Rattle.pairing.specs.Pairs.{paired}
 use Rattle.judgement.specs.Judging.{end_answer, lock_answer, read_answer, write_answer}
 use Rattle.header_claims.specs.{Header.fields_at, Opening.candidate}
+use Rattle.protection.specs.Protection.{Protection}
 
 -- the data area: whole sectors of 512 bytes, at least one, where its kind's may lie
 unfoldable pub data_area_before : Layout → Bool
@@ -36,49 +32,49 @@ unfoldable pub sound_before : Layout → Bool
 sound_before layout = host_size_rule layout.host_size && data_area_before layout
 
 -- a pair: a standard layout and a hidden one with the same S, whose data area does not reach out of the first's
-unfoldable pub paired_before : Layout → Layout → Pairing
+unfoldable pub paired_before : Layout → Layout → Answer ⊤
 paired_before outer hidden_layout =
-    line (pairing.Refused 11) (sound_before outer && sound_before hidden_layout)
-    (line (pairing.Refused 12)
+    line (refuse 11) (sound_before outer && sound_before hidden_layout)
+    (line (refuse 12)
     (eqb outer.kind standard && eqb hidden_layout.kind hidden && eqb outer.host_size hidden_layout.host_size
     && leb outer.data_start hidden_layout.data_start && leb (area_end hidden_layout) (area_end outer))
-    pairing.Nested)
+    (Ok tt))
 
 -- the judgement of one candidate, with the lines 8 and 10 of then
-unfoldable pub judge_before : ℕ → ℕ → ℕ → List ℕ → Opened
+unfoldable pub judge_before : ℕ → ℕ → ℕ → List ℕ → Answer Layout
 judge_before kind host_size index h =
     let magic = magic_of h in
     let f = fields_of h in
     let layout = accepted_layout kind host_size index magic f in
-    line (opening.Refused 4) (is_header h)
-    (line (opening.Refused 5) (version_rule magic f.version)
-    (line (opening.Refused 6) (reserved_rule magic f.flags h)
-    (line (opening.Refused 7) (flags_rule f.flags)
-    (line (opening.Refused 8) (eqb f.sector_size 512)
-    (line (opening.Refused 9) (hidden_size_rule kind f.hidden_size f.data_size)
-    (line (opening.Refused 10) (eqb f.encrypted_size f.data_size && data_area_before layout) (opening.Accepted layout)))))))
+    line (refuse 4) (is_header h)
+    (line (refuse 5) (version_rule magic f.version)
+    (line (refuse 6) (reserved_rule magic f.flags h)
+    (line (refuse 7) (flags_rule f.flags)
+    (line (refuse 8) (eqb f.sector_size 512)
+    (line (refuse 9) (hidden_size_rule kind f.hidden_size f.data_size)
+    (line (refuse 10) (eqb f.encrypted_size f.data_size && data_area_before layout) (Ok layout)))))))
 
 -- opening, by these judgements in order
-unfoldable pub judgements_before : List ℕ → ℕ → ℕ → List ℕ → List Opened
+unfoldable pub judgements_before : List ℕ → ℕ → ℕ → List ℕ → List (Answer Layout)
 judgements_before candidates host_size index [] = []
 judgements_before candidates host_size index (code ∷ codes) =
     judge_before (location_of code).kind host_size index (candidate_at index candidates) ∷ judgements_before candidates host_size (suc index) codes
 
-unfoldable pub opened_before : List ℕ → List ℕ → ℕ → Opened
+unfoldable pub opened_before : List ℕ → List ℕ → ℕ → Answer Layout
 opened_before candidates codes host_size =
-    line (opening.Refused 1) (lengths_rule candidates codes)
-    (line (opening.Refused 2) (codes_rule codes)
-    (line (opening.Refused 3) (host_size_rule host_size) (foldl further (opening.Refused 4) (judgements_before candidates host_size 0 codes))))
+    line (refuse 1) (lengths_rule candidates codes)
+    (line (refuse 2) (codes_rule codes)
+    (line (refuse 3) (host_size_rule host_size) (foldl further (refuse 4) (judgements_before candidates host_size 0 codes))))
 
 -- the writer's checks
-unfoldable pub header_answer_before : ℕ → Layout → ℕ → ℕ → ℕ → Written
+unfoldable pub header_answer_before : ℕ → Layout → ℕ → ℕ → ℕ → Answer ⊤
 header_answer_before code layout salt_size keys_size header_size =
-    line (writing.Refused 1) (new_lengths_rule salt_size keys_size header_size)
-    (line (writing.Refused 19) (leb layout.magic truecrypt)
-    (line (writing.Refused 2) (code_rule code)
-    (line (writing.Refused 3) (host_size_rule layout.host_size)
-    (line (writing.Refused 5) (version_rule layout.magic layout.version)
-    (line (writing.Refused 10) (data_area_before layout) writing.Done)))))
+    line (refuse 1) (new_lengths_rule salt_size keys_size header_size)
+    (line (refuse 19) (leb layout.magic truecrypt)
+    (line (refuse 2) (code_rule code)
+    (line (refuse 3) (host_size_rule layout.host_size)
+    (line (refuse 5) (version_rule layout.magic layout.version)
+    (line (refuse 10) (data_area_before layout) (Ok tt))))))
 
 -- the numbers of a new header
 unfoldable pub new_fields_before : Layout → Fields
@@ -95,12 +91,12 @@ new_fields_before layout =
     }
 
 -- the checks of a read or a write: 11, 13, 14, 15, 16, and then the later ones
-unfoldable pub checked_before : Layout → Protection → ℕ → ℕ → ℕ → ℕ → Answer → Answer
+unfoldable pub checked_before : Layout → Protection → ℕ → ℕ → ℕ → ℕ → Answer ⊤ → Answer ⊤
 checked_before layout protection image_size first count buffer_size later =
-    line (Refused 11) (sound_before layout && protection_rule layout protection)
-    (line (Refused 13) (eqb image_size layout.host_size)
-    (line (Refused 14) (leb count 128)
-    (line (Refused 15) (eqb buffer_size (count * 512)) (end_answer layout first count later))))
+    line (refuse 11) (sound_before layout && protection_rule layout protection)
+    (line (refuse 13) (eqb image_size layout.host_size)
+    (line (refuse 14) (leb count 128)
+    (line (refuse 15) (eqb buffer_size (count * 512)) (end_answer layout first count later))))
 
 -- the claim for a layout with Z 512
 pub record LayoutAt512 (layout : Layout) : Type 0 where
@@ -112,15 +108,15 @@ pub record LayoutAt512 (layout : Layout) : Type 0 where
       → header_answer code layout salt_size keys_size header_size ≡ header_answer_before code layout salt_size keys_size header_size
   pub written : new_fields layout ≡ new_fields_before layout
   pub reads : (protection : Protection) (image_size first count buffer_size : ℕ)
-      → read_answer layout protection image_size first count buffer_size ≡ checked_before layout protection image_size first count buffer_size Accepted
+      → read_answer layout protection image_size first count buffer_size ≡ checked_before layout protection image_size first count buffer_size (Ok tt)
   pub writes : (protection : Protection) (locked : Bool) (image_size first count buffer_size : ℕ)
       → write_answer layout protection locked image_size first count buffer_size
       ≡ checked_before layout protection image_size first count buffer_size (lock_answer layout protection locked first count)
   -- nothing is refused 20
   pub reads_all : (protection : Protection) (image_size first count buffer_size : ℕ)
-      → answer_refusal (read_answer layout protection image_size first count buffer_size) ≡ 20 → ⊥
+      → refusal_number (read_answer layout protection image_size first count buffer_size) ≡ 20 → ⊥
   pub writes_all : (protection : Protection) (locked : Bool) (image_size first count buffer_size : ℕ)
-      → answer_refusal (write_answer layout protection locked image_size first count buffer_size) ≡ 20 → ⊥
+      → refusal_number (write_answer layout protection locked image_size first count buffer_size) ≡ 20 → ⊥
 
 -- the claim
 pub record SameAt512 : Type 0 where

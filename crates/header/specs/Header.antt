@@ -1,15 +1,15 @@
 -- The 512 bytes of a header (RULES.md, Header bytes): their numbers, when they are a header, and the lines that an accepted header keeps.
 -- What the contracts of `header` cite, in the rules' order. Assumes nothing.
-use Rattle.std.specs.Prelude.{ℕ, ◌/◌, ◌%◌}
+use Rattle.std.specs.Prelude.{ℕ, ◌/◌, ◌%◌, Ok}
 use mathlib.Core.{Bool.{Bool, true, ◌&&◌, not, cond}, List.List}
 use lib.{Dec.{leb, eqb}, ListN.length}
 use Rattle.fields.specs.Bytes.{field_part}
 use Rattle.byte_tests.specs.Tests.{all_zero}
 use Rattle.numbers.specs.Numbers.{big_endian}
 use Rattle.crc32.specs.Crc32.{crc32}
-use Rattle.answers.specs.Answers.{line}
-use Rattle.layout.specs.{Rules.{standard, hidden, sector_size_rule, data_area_rule}, declared.{Layout.Layout, Opened.Opened}}
-use Rattle.layout.specs.declared.Opened.TheVariants.{Accepted, Refused}
+use Rattle.answers.specs.Answers.{line, Answer, refuse}
+use Rattle.layout.specs.Rules.{standard, hidden, sector_size_rule, data_area_rule}
+use Rattle.layout.specs.declared.Layout.{Layout}
 use Rattle.header_format.specs.declared.Fields.{Fields}
 use Rattle.header_format.specs.Format.{header_bytes, magic_field, version_field, min_program_version_field, key_checksum_field, reserved_field}
 use Rattle.header_format.specs.Format.{hidden_size_field, data_size_field, data_start_field, encrypted_size_field, flags_field, sector_size_field}
@@ -78,15 +78,15 @@ area_rule layout encrypted_size = eqb encrypted_size layout.data_size && data_ar
 
 -- the judgement of one candidate: 4 where it is no header, else by the first line that it breaks, and its layout where it keeps them all;
 -- line 5 is the format's rule for versions, and line 8 the layout's for Z
-unfoldable pub judge : ℕ → ℕ → ℕ → List ℕ → Opened
+unfoldable pub judge : ℕ → ℕ → ℕ → List ℕ → Answer Layout
 judge kind host_size index h =
     let magic = magic_of h in
     let f = fields_of h in
     let layout = accepted_layout kind host_size index magic f in
-    line (Refused 4) (is_header h)
-    (line (Refused 5) (version_rule magic f.version)
-    (line (Refused 6) (reserved_rule magic f.flags h)
-    (line (Refused 7) (flags_rule f.flags)
-    (line (Refused 8) (sector_size_rule f.sector_size)
-    (line (Refused 9) (hidden_size_rule kind f.hidden_size f.data_size)
-    (line (Refused 10) (area_rule layout f.encrypted_size) (Accepted layout)))))))
+    line (refuse 4) (is_header h)
+    (line (refuse 5) (version_rule magic f.version)
+    (line (refuse 6) (reserved_rule magic f.flags h)
+    (line (refuse 7) (flags_rule f.flags)
+    (line (refuse 8) (sector_size_rule f.sector_size)
+    (line (refuse 9) (hidden_size_rule kind f.hidden_size f.data_size)
+    (line (refuse 10) (area_rule layout f.encrypted_size) (Ok layout)))))))

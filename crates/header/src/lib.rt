@@ -9,26 +9,31 @@ ghost use Rattle.header.specs.Header.{magic_of, fields_of, checksums_match, is_h
 ghost use Rattle.header.specs.Header.{reserved_rule, hidden_size_rule, area_rule};
 ghost use Rattle.header.specs.Header.{accepted_layout, judge as judgement};
 
+use answers::Refusal;
 use fields::Field;
 use header_format::{Fields, places};
-use layout::{Layout, Opened};
+use layout::Layout;
 
 // Judges one candidate for a kind of volume and a host's size. A layout carries index as the
 // candidate's. Fewer or more than 512 bytes are no header.
-pub fn judge(candidate: &[u8], kind: u64, host_size: u64, index: u64) -> Opened
+#[tactic(auto, unfolding(crate::specs::Header::judge))]
+pub fn judge(candidate: &[u8], kind: u64, host_size: u64, index: u64) -> Result<Layout, Refusal>
     ensures { result ≡ judgement kind host_size index candidate.now }
 {
-    if candidate.len() != header_format::SIZE {
-        return Opened::Refused(4);
+    if !is_header(candidate) {
+        return Err(Refusal::new(answers::NO_HEADER));
     }
-    let magic = magic_of(candidate);
-    if header_format::TRUE < magic {
-        return Opened::Refused(4);
-    }
-    if !checksums_match(candidate) {
-        return Opened::Refused(4);
-    }
-    first_broken(candidate, magic, kind, host_size, index)
+    first_broken(candidate, kind, host_size, index)
+}
+
+// Whether the candidate is a header; only 512 bytes are.
+#[tactic(auto, unfolding(crate::specs::Header::is_header))]
+fn is_header(candidate: &[u8]) -> bool
+    ensures { result ≡ is_header candidate.now }
+{
+    candidate.len() == header_format::SIZE
+        && magic_of(candidate) <= header_format::TRUE
+        && checksums_match(candidate)
 }
 
 fn magic_of(candidate: &[u8]) -> u64
@@ -38,6 +43,7 @@ fn magic_of(candidate: &[u8]) -> u64
 }
 
 // The salt, bytes 0 to 63, is in neither checksum.
+#[tactic(auto, unfolding(crate::specs::Header::checksums_match))]
 fn checksums_match(candidate: &[u8]) -> bool
     ensures { result ≡ checksums_match candidate.now }
 {
@@ -45,10 +51,8 @@ fn checksums_match(candidate: &[u8]) -> bool
         fields::field_bytes(candidate, places::KEYS),
         fields::field_bytes(candidate, places::CHECKED),
     );
-    if checksums[0] as u64 != number(candidate, places::KEY_CHECKSUM) {
-        return false;
-    }
-    checksums[1] as u64 == number(candidate, places::HEADER_CHECKSUM)
+    u64::from(checksums[0]) == number(candidate, places::KEY_CHECKSUM)
+        && u64::from(checksums[1]) == number(candidate, places::HEADER_CHECKSUM)
 }
 
 // The number in a field of at most eight bytes.
@@ -75,74 +79,65 @@ fn read_fields(candidate: &[u8]) -> Fields
 }
 
 // Judges a header by the first rule that it breaks.
-fn first_broken(candidate: &[u8], magic: u64, kind: u64, host_size: u64, index: u64) -> Opened
-    requires header_found { is_header candidate.now ≡ true }
-    requires magic_value { magic ≡ magic_of candidate.now }
+#[tactic(auto, unfolding(crate::specs::Header::judge, crate::specs::Header::flags_rule))]
+fn first_broken(candidate: &[u8], kind: u64, host_size: u64, index: u64) -> Result<Layout, Refusal>
+    requires { is_header candidate.now ≡ true }
     ensures { result ≡ judgement kind host_size index candidate.now }
 {
+    let magic = magic_of(candidate);
     let fields = read_fields(candidate);
     if !header_format::keeps_version(magic, fields.version) {
-        return Opened::Refused(5);
+        return Err(Refusal::new(answers::VERSION));
     }
     if !keeps_reserved(candidate, magic, fields.flags) {
-        return Opened::Refused(6);
+        return Err(Refusal::new(answers::RESERVED));
     }
     if fields.flags % 4 != 0 {
-        return Opened::Refused(7);
+        return Err(Refusal::new(answers::FLAGS));
     }
     if !layout::is_sector_size(fields.sector_size) {
-        return Opened::Refused(8);
+        return Err(Refusal::new(answers::SECTOR_SIZE));
     }
     if !keeps_hidden_size(kind, fields.hidden_size, fields.data_size) {
-        return Opened::Refused(9);
+        return Err(Refusal::new(answers::HIDDEN_SIZE));
     }
     let layout = accepted_layout(fields, magic, kind, host_size, index);
     if !keeps_area(layout, fields.encrypted_size) {
-        return Opened::Refused(10);
+        return Err(Refusal::new(answers::DATA_AREA));
     }
-    Opened::Accepted(layout)
+    Ok(layout)
 }
 
 // The bytes that VERA reserves are unused in TRUE, and not looked at.
+#[tactic(auto, unfolding(crate::specs::Header::reserved_rule))]
 fn keeps_reserved(candidate: &[u8], magic: u64, flags: u64) -> bool
     ensures { result ≡ reserved_rule magic flags candidate.now }
 {
-    if flags / 4 != 0 {
-        return false;
-    }
-    if magic != header_format::VERA {
-        return true;
-    }
-    if !byte_tests::is_zero(fields::field_bytes(candidate, places::RESERVED)) {
-        return false;
-    }
-    byte_tests::is_zero(fields::field_bytes(candidate, places::MORE_RESERVED))
+    flags / 4 == 0
+        && (magic != header_format::VERA
+            || byte_tests::is_zero(fields::field_bytes(candidate, places::RESERVED))
+                && byte_tests::is_zero(fields::field_bytes(candidate, places::MORE_RESERVED)))
 }
 
+#[tactic(auto, unfolding(crate::specs::Header::hidden_size_rule))]
 fn keeps_hidden_size(kind: u64, hidden_size: u64, data_size: u64) -> bool
     ensures { result ≡ hidden_size_rule kind hidden_size data_size }
 {
-    if kind == layout::STANDARD {
-        return hidden_size == 0;
+    match kind {
+        layout::STANDARD => hidden_size == 0,
+        layout::HIDDEN => hidden_size != 0 && hidden_size == data_size,
+        _ => false,
     }
-    if kind != layout::HIDDEN {
-        return false;
-    }
-    if hidden_size == 0 {
-        return false;
-    }
-    hidden_size == data_size
 }
 
+#[tactic(auto, unfolding(crate::specs::Header::area_rule))]
 fn keeps_area(layout: Layout, encrypted_size: u64) -> bool
     ensures { result ≡ area_rule layout encrypted_size }
 {
-    if encrypted_size != layout.data_size {
-        return false;
-    }
-    layout::is_data_area(layout)
+    encrypted_size == layout.data_size && layout::is_data_area(layout)
 }
 
+#[tactic(auto, unfolding(crate::specs::Header::accepted_layout))]
 fn accepted_layout(fields: Fields, magic: u64, kind: u64, host_size: u64, index: u64) -> Layout
     ensures { result ≡ accepted_layout kind host_size index magic fields }
 {

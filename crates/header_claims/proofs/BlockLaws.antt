@@ -7,10 +7,10 @@ use lib.{ListN.{length, replicate}, Seq.{take_at, drop_at}}
 use Rattle.numbers.specs.Numbers.{little_endian, little_endian_bytes}
 use Rattle.numbers.proofs.WrittenLaws.{little_endian_bytes_length, little_endian_bytes_lt, little_endian_bytes_spell, little_endian_bytes_pad}
 use Rattle.tweaks.specs.Tweaks.{block_of}
-use Rattle.answers.specs.declared.Numbered.TheVariants.{Number}
 use Rattle.header_claims.specs.SectorMap.{IsBlock}
+use Rattle.std.specs.Prelude.{Ok}
 
-pub block_of_number : (number : ℕ) → number < 256 ^ 8 → IsBlock number (block_of (Number number))
+pub block_of_number : (number : ℕ) → number < 256 ^ 8 → IsBlock number (block_of (Ok number))
 unfolding block_of
 block_of_number number small =
     let written : little_endian_bytes 16 number ≡ little_endian_bytes 8 number ++ replicate 8 0 = little_endian_bytes_pad 8 8 number small in

@@ -6,7 +6,7 @@ use native.Mathlib.Omega.{arith}
 use mathlib.Core.List.{List}
 use lib.{ListN.{length, get_or, take}, Seq.take-length}
 use borrow.Author.Tests.{ne_eqb}
-use Rattle.layout.specs.declared.{Layout.Layout, Opened.{Opened, TheVariants.{Accepted, Refused}}}
+use Rattle.layout.specs.declared.Layout.{Layout}
 use Rattle.opening.specs.Opening.{judgements, further, searched}
 use Rattle.opening.proofs.SearchLaws.{searched_next}
 use Rattle.header_claims.specs.Header.{IsHeader, Line, number, Keeps}
@@ -15,6 +15,8 @@ use Rattle.header_claims.proofs.Reflects.{below_suc}
 use Rattle.header_claims.proofs.JudgementLaws.{number_bounds, Judgement, accepts, refuses, refuses4}
 use Rattle.header_claims.proofs.CandidateLaws.{judge_at_says}
 use Rattle.header_claims.proofs.ToldLaws.{Told, layout_tells}
+use Rattle.std.specs.Prelude.{Ok}
+use Rattle.answers.specs.Answers.{Answer, refuse}
 
 module _ (candidates codes : List ℕ) (host_size : ℕ) where
   -- none of the first k is accepted
@@ -26,23 +28,23 @@ module _ (candidates codes : List ℕ) (host_size : ℕ) where
   NoHeader k = (j : ℕ) → j < k → IsHeader (candidate candidates j) → ⊥
 
   -- what an answer says of the first k candidates
-  pub data Found (k : ℕ) : Opened → Type 0 where
+  pub data Found (k : ℕ) : Answer Layout → Type 0 where
     an_accepted : (i : ℕ) (layout : Layout) → FirstAccepted candidates codes host_size i → TellsAt candidates codes host_size i layout
-        → Found k (Accepted layout)
-    a_header : NoneAccepted k → (i : ℕ) (line : Line) → FirstHeader candidates codes host_size i line → Found k (Refused (number line))
-    no_header : NoneAccepted k → NoHeader k → Found k (Refused 4)
+        → Found k (Ok layout)
+    a_header : NoneAccepted k → (i : ℕ) (line : Line) → FirstHeader candidates codes host_size i line → Found k (refuse (number line))
+    no_header : NoneAccepted k → NoHeader k → Found k (refuse 4)
 
   module _ (k : ℕ) (inside : k < length codes) where
     -- the candidate at k, where none before it is accepted: it is accepted itself
     takes : NoneAccepted k → IsHeader (candidate candidates k)
         → ((line : Line) → Keeps line (kind_of (get_or codes k 0)) host_size (candidate candidates k))
-        → Found (suc k) (Accepted (Told (kind_of (get_or codes k 0)) host_size k (candidate candidates k)))
+        → Found (suc k) (Ok (Told (kind_of (get_or codes k 0)) host_size k (candidate candidates k)))
     takes none r keeps =
         an_accepted k _ (record { accepted = record { inside = inside; is_header = r; keeps = keeps }; first = none })
         (layout_tells (kind_of (get_or codes k 0)) host_size k (candidate candidates k))
 
     -- one candidate more
-    further_says : {answer next : Opened} → Found k answer → Judgement (kind_of (get_or codes k 0)) host_size k (candidate candidates k) next
+    further_says : {answer next : Answer Layout} → Found k answer → Judgement (kind_of (get_or codes k 0)) host_size k (candidate candidates k) next
         → Found (suc k) (further answer next)
     unfolding further
     further_says (an_accepted i layout first told) judged = an_accepted i layout first told

@@ -5,7 +5,6 @@ use Prim.Native.Nat.{ℕ, suc, ◌-◌, ◌≤◌, ◌<◌}
 use native.Mathlib.Omega.{arith}
 use mathlib.Core.{Path.{◌≡◌, refl, sym, ◌∙◌, ap, subst}, Bool.{Bool, cond}, List.{List, [], ◌∷◌}}
 use lib.ListN.{length, get_or}
-use Rattle.layout.specs.declared.Opened.{Opened, TheVariants.{Accepted, Refused}}
 use Rattle.header.specs.Header.{fields_of, judge}
 use Rattle.header_claims.specs.Header.{SectorSize, KnownKind, IsHeader, Line, version, reserved, flags, sector_size, hidden_size, data_area, number, Keeps, FirstBroken}
 use Rattle.header_claims.proofs.Reflects.{Reflects, holds, fails, below_suc}
@@ -13,6 +12,9 @@ use Rattle.header_claims.proofs.HeaderLaws.{magic_of_says, is_header_reflects}
 use Rattle.header_claims.proofs.ToldLaws.{Told}
 use Rattle.header_claims.proofs.LineLaws.{version_reflects, reserved_reflects, flags_reflects}
 use Rattle.header_claims.proofs.LineLaws.{sectors_reflect, hidden_size_reflects, data_area_reflects}
+use Rattle.std.specs.Prelude.{Ok}
+use Rattle.answers.specs.Answers.{Answer, refuse}
+use Rattle.layout.specs.declared.Layout.{Layout}
 
 -- the line of a number
 abbrev line_of : ℕ → Line
@@ -41,12 +43,12 @@ number_bounds data_area = omega arith
 
 module _ (kind host_size index : ℕ) (h : List ℕ) where
   -- what the judgement of a candidate says
-  pub data Judgement : Opened → Type 0 where
-    accepts : IsHeader h → ((line : Line) → Keeps line kind host_size h) → Judgement (Accepted (Told kind host_size index h))
-    refuses : IsHeader h → (line : Line) → FirstBroken line kind host_size h → Judgement (Refused (number line))
-    refuses4 : (IsHeader h → ⊥) → Judgement (Refused 4)
+  pub data Judgement : Answer Layout → Type 0 where
+    accepts : IsHeader h → ((line : Line) → Keeps line kind host_size h) → Judgement (Ok (Told kind host_size index h))
+    refuses : IsHeader h → (line : Line) → FirstBroken line kind host_size h → Judgement (refuse (number line))
+    refuses4 : (IsHeader h → ⊥) → Judgement (refuse 4)
 
-  header_says : {b : Bool} {later : Opened} → Reflects (IsHeader h) b → (IsHeader h → Judgement later) → Judgement (cond b later (Refused 4))
+  header_says : {b : Bool} {later : Answer Layout} → Reflects (IsHeader h) b → (IsHeader h → Judgement later) → Judgement (cond b later (refuse 4))
   header_says (holds r) after = after r
   header_says (fails f) after = refuses4 f
 
@@ -55,9 +57,9 @@ module _ (kind host_size index : ℕ) (h : List ℕ) where
   KeepsAt n = (line : Line) → number line ≡ n → Keeps line kind host_size h
 
   -- one line of a header, where those before it are kept
-  line_says : IsHeader h → (line : Line) {b : Bool} {later : Opened} → Reflects (Keeps line kind host_size h) b
+  line_says : IsHeader h → (line : Line) {b : Bool} {later : Answer Layout} → Reflects (Keeps line kind host_size h) b
       → ((n : ℕ) → n < number line → KeepsAt n) → (((n : ℕ) → n < suc (number line) → KeepsAt n) → Judgement later)
-      → Judgement (cond b later (Refused (number line)))
+      → Judgement (cond b later (refuse (number line)))
   line_says r line (holds p) before after =
       after (below_suc KeepsAt (number line) before (λ other e. subst (λ l. Keeps l kind host_size h) (sym (number_injective other line e)) p))
   line_says r line (fails f) before after = refuses r line (record { broken = f; earlier = λ other lt. before (number other) lt other refl })

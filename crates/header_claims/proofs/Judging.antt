@@ -5,7 +5,7 @@ use native.Mathlib.Omega.{arith}
 use mathlib.Core.{Path.{◌≡◌, refl, sym, ap, ◌∙◌}, Logic.{◌⊎◌, inl, inr, ⊎_elim, ◌↔◌}, Bool.{Bool, true}, List.{List, ◌++◌}}
 use lib.{ListN.{length, drop, length-append}, Seq.{drop_at, drop-drop}}
 use borrow.Author.Tests.{ne_eqb}
-use Rattle.layout.specs.declared.{Layout.Layout, Opened.{Opened, TheVariants.{Accepted, Refused}}}
+use Rattle.layout.specs.declared.Layout.{Layout}
 use Rattle.header.specs.Header.{magic_of, fields_of, checksums_match, is_header, reserved_rule, judge}
 use Rattle.header_format.specs.Format.{version_rule}
 use Rattle.key_bytes.specs.KeyBytes.{keys_offset, keys_size}
@@ -18,6 +18,8 @@ use Rattle.header_claims.proofs.HeaderLaws.{MagicIs, spells_vera, spells_true, s
 use Rattle.header_claims.proofs.LineLaws.{four_or_five}
 use Rattle.header_claims.proofs.ToldLaws.{Told, layout_tells}
 use Rattle.header_claims.proofs.JudgementLaws.{Judgement, accepts, refuses, refuses4, judge_says}
+use Rattle.std.specs.Prelude.{Ok}
+use Rattle.answers.specs.Answers.{Answer, refuse}
 
 -- what each number of a magic says, both ways
 module _ {bytes : List ℕ} where
@@ -86,32 +88,32 @@ module _ (kind host_size index : ℕ) where
 
   module _ (h : List ℕ) where
     -- fewer or more bytes are no header
-    other_length : (length h ≡ 512 → ⊥) → judge kind host_size index h ≡ Refused 4
+    other_length : (length h ≡ 512 → ⊥) → judge kind host_size index h ≡ refuse 4
     unfolding judge is_header
     other_length f = simp (ne_eqb (length h) 512 f)
 
-    is_not_header : length h ≡ 512 → (IsHeader h → ⊥) → judge kind host_size index h ≡ Refused 4
+    is_not_header : length h ≡ 512 → (IsHeader h → ⊥) → judge kind host_size index h ≡ refuse 4
     unfolding judge
     is_not_header size f = rw (is_false (is_header_reflects h size) f)
 
-    no_header : (IsHeader h → ⊥) → judge kind host_size index h ≡ Refused 4
+    no_header : (IsHeader h → ⊥) → judge kind host_size index h ≡ refuse 4
     no_header f = go (reflects_eqb (length h) 512)
       where
-        go : {b : Bool} → Reflects (length h ≡ 512) b → judge kind host_size index h ≡ Refused 4
+        go : {b : Bool} → Reflects (length h ≡ 512) b → judge kind host_size index h ≡ refuse 4
         go (holds size) = is_not_header size f
         go (fails g) = other_length g
 
     not-before : {i j : ℕ} → (i < j → ⊥) → (j < i → ⊥) → i ≡ j
     not-before f g = omega arith
 
-    by_line : {o : Opened} → Judgement kind host_size index h o → IsHeader h → (line : Line) → FirstBroken line kind host_size h → o ≡ Refused (number line)
+    by_line : {o : Answer Layout} → Judgement kind host_size index h o → IsHeader h → (line : Line) → FirstBroken line kind host_size h → o ≡ refuse (number line)
     by_line (accepts r keeps) s line b = absurd (b.broken (keeps line))
     by_line (refuses r other c) s line b =
-        ap Refused (not-before (λ lt. c.broken (b.earlier other lt)) (λ lt. b.broken (c.earlier line lt)))
+        ap refuse (not-before (λ lt. c.broken (b.earlier other lt)) (λ lt. b.broken (c.earlier line lt)))
     by_line (refuses4 f) s line b = absurd (f s)
 
-    by_all : {o : Opened} → Judgement kind host_size index h o → IsHeader h → ((line : Line) → Keeps line kind host_size h)
-        → (layout : Layout) × (o ≡ Accepted layout) × Tells kind host_size index h layout
+    by_all : {o : Answer Layout} → Judgement kind host_size index h o → IsHeader h → ((line : Line) → Keeps line kind host_size h)
+        → (layout : Layout) × (o ≡ Ok layout) × Tells kind host_size index h layout
     by_all (accepts r keeps) s k = (Told kind host_size index h, refl, layout_tells kind host_size index h)
     by_all (refuses r line b) s k = absurd (b.broken (k line))
     by_all (refuses4 f) s k = absurd (f s)

@@ -6,29 +6,30 @@ use mathlib.Core.{Path.{◌≡◌, refl}, Bool.{Bool, ◌&&◌, cond}}
 use lib.Dec.{leb, ltb}
 use Rattle.layout.specs.declared.Layout.{Layout}
 use Rattle.sector_map.specs.SectorMap.{sectors, first_sector, host_sector, user_sector}
-use Rattle.answers.specs.declared.Numbered.{Numbered, TheVariants.{Number, Refused}}
 use Rattle.header_claims.specs.SectorMap.{Sound, InArea, Outside, OutsideHeaders}
 use Rattle.header_claims.proofs.Reflects.{Reflects, holds, fails, is_true, reflects_map, reflects_and, reflects_leb}
 use Rattle.header_claims.proofs.SoundLaws.{sound_reflects, sound_on_sectors, sound_start}
+use Rattle.std.specs.Prelude.{Ok}
+use Rattle.answers.specs.Answers.{Answer, refuse}
 
 -- an answer is a number where P holds, and else 16
-pub data Answers (P : Type 0) (n : ℕ) : Numbered → Type 0 where
-  answers_number : P → Answers P n (Number n)
-  answers16 : (P → ⊥) → Answers P n (Refused 16)
+pub data Answers (P : Type 0) (n : ℕ) : Answer ℕ → Type 0 where
+  answers_number : P → Answers P n (Ok n)
+  answers16 : (P → ⊥) → Answers P n (refuse 16)
 
-answers_cond : {P : Type 0} {b : Bool} (n : ℕ) → Reflects P b → Answers P n (cond b (Number n) (Refused 16))
+answers_cond : {P : Type 0} {b : Bool} (n : ℕ) → Reflects P b → Answers P n (cond b (Ok n) (refuse 16))
 answers_cond n (holds p) = answers_number p
 answers_cond n (fails f) = answers16 f
 
-pub is_number : {P : Type 0} {n : ℕ} {m : Numbered} → Answers P n m → P → m ≡ Number n
+pub is_number : {P : Type 0} {n : ℕ} {m : Answer ℕ} → Answers P n m → P → m ≡ Ok n
 is_number (answers_number p) q = refl
 is_number (answers16 f) q = absurd (f q)
 
-pub is_refused : {P : Type 0} {n : ℕ} {m : Numbered} → Answers P n m → (P → ⊥) → m ≡ Refused 16
+pub is_refused : {P : Type 0} {n : ℕ} {m : Answer ℕ} → Answers P n m → (P → ⊥) → m ≡ refuse 16
 is_refused (answers_number p) g = absurd (g p)
 is_refused (answers16 f) g = refl
 
-pub number_says : {P : Type 0} {n k : ℕ} {m : Numbered} → Answers P n m → m ≡ Number k → P × (n ≡ k)
+pub number_says : {P : Type 0} {n k : ℕ} {m : Answer ℕ} → Answers P n m → m ≡ Ok k → P × (n ≡ k)
 number_says (answers_number p) e = (p, (cc))
 number_says (answers16 f) e = let z : ◌≡◌ {A = ℕ} 0 1 = cc in absurd (omega arith)
 
@@ -49,7 +50,7 @@ module _ (layout : Layout) (s : Sound layout) where
   unfolding user_sector first_sector
   user_sector_answers host = rw (is_true (sound_reflects layout) s) (answers_cond (host - first_sector layout) (in_area_reflects host))
 
-  pub host_sector_in_area : (user host : ℕ) → host_sector layout user ≡ Number host → InArea layout host
+  pub host_sector_in_area : (user host : ℕ) → host_sector layout user ≡ Ok host → InArea layout host
   host_sector_in_area user host e =
       let on = sound_on_sectors layout s in
       let h = number_says (host_sector_answers user) e in

@@ -6,10 +6,9 @@ use mathlib.Core.{Path.{◌≡◌, refl, sym, ap, ◌∙◌}, List.{List, [], �
 use lib.{ListN.{length, drop, length-append}, Seq.{take_at, drop_at, take_all, drop-drop, take-append_seam, drop-append_seam}}
 use borrow.Author.Tests.{eq-eqb, ne_eqb}
 use Rattle.numbers.specs.Numbers.{big_endian}
-use Rattle.layout.specs.declared.{Layout.Layout, Opened.TheVariants.Refused}
+use Rattle.layout.specs.declared.Layout.{Layout}
 use Rattle.opening.specs.Opening.{opened}
 use Rattle.sector_map.specs.SectorMap.{sectors, first_sector, sector_count, host_sector}
-use Rattle.answers.specs.declared.Numbered.TheVariants.{Number}
 use Rattle.map_input.specs.MapInput.{opened_input}
 use Rattle.map_output.specs.MapOutput.{ascii}
 use Rattle.map_output.specs.MapOutput.{text_line, number_line, either_line, magic_line, kind_line, header_lines, area_lines, sector_lines, last_sector}
@@ -18,6 +17,8 @@ use Rattle.header_claims.specs.SectorMap.{Sound}
 use Rattle.header_claims.specs.MapProgram.{ReadsInput, MagicWord, vera, other, KindWord, hidden, standard, PrintsLines}
 use Rattle.header_claims.proofs.DecimalLaws.{is_decimal}
 use Rattle.header_claims.proofs.SectorMap.{maps_exactly}
+use Rattle.std.specs.Prelude.{Ok}
+use Rattle.answers.specs.Answers.{refuse}
 
 -- the three parts of an input
 module _ (size : List ℕ) (code : ℕ) (candidate : List ℕ) (eight : length size ≡ 8) (whole : length candidate ≡ 512) where
@@ -35,7 +36,7 @@ module _ (size : List ℕ) (code : ℕ) (candidate : List ℕ) (eight : length s
   input_opens =
       rw (eq-eqb _ _ all_bytes, behind, behind_code, take_at size (code ∷ candidate) 8 eight, take_all 512 candidate (omega arith))
 
-input_refused : (input : List ℕ) → (length input ≡ 521 → ⊥) → opened_input input ≡ Refused 1
+input_refused : (input : List ℕ) → (length input ≡ 521 → ⊥) → opened_input input ≡ refuse 1
 unfolding opened_input
 input_refused input f = rw (ne_eqb (length input) 521 f)
 
@@ -58,13 +59,13 @@ ten : {a k m n : List ℕ} (b c d e f g h i : List ℕ) → a ≡ m → k ≡ n
 ten b c d e f g h i p q = rw (p, q) (simp append_assoc)
 
 maps : (layout : Layout) → Sound layout
-    → (sector_count layout ≡ Number (layout.data_size / 512))
-    × (host_sector layout 0 ≡ Number (layout.data_start / 512))
-    × (host_sector layout (layout.data_size / 512 - 1) ≡ Number (layout.data_start / 512 + (layout.data_size / 512 - 1)))
+    → (sector_count layout ≡ Ok (layout.data_size / 512))
+    × (host_sector layout 0 ≡ Ok (layout.data_start / 512))
+    × (host_sector layout (layout.data_size / 512 - 1) ≡ Ok (layout.data_start / 512 + (layout.data_size / 512 - 1)))
 maps layout s =
     let map = (maps_exactly layout).sound s in
     let some : 0 < layout.data_size / 512 = omega (arith, s.area.at_least) in
-    (map.count, map.there 0 some ∙ ap Number (omega arith), map.there (layout.data_size / 512 - 1) (omega arith))
+    (map.count, map.there 0 some ∙ ap Ok (omega arith), map.there (layout.data_size / 512 - 1) (omega arith))
 
 pub prints_lines : PrintsLines
 unfolding layout_lines header_lines area_lines sector_lines number_line text_line sectors first_sector last_sector refusal_line

@@ -4,15 +4,16 @@ use Prim.Native.Nat.{ℕ, ◌≤◌}
 use native.Mathlib.Omega.{arith}
 use mathlib.Core.{Path.◌≡◌, Bool.Bool, List.List}
 use lib.ListN.{length}
-use Rattle.layout.specs.declared.{Layout.Layout, Opened.{Opened, TheVariants.{Accepted, Refused}}}
+use Rattle.layout.specs.declared.Layout.{Layout}
 use Rattle.locations.specs.Locations.{locations, location_of, offset_from, located}
 use Rattle.opening.specs.Opening.{searched, opened}
-use Rattle.answers.specs.{Answers.line, declared.Numbered.TheVariants.Number}
+use Rattle.answers.specs.Answers.{line, Answer, refuse}
 use Rattle.header_claims.specs.Opening.{Lengths, Codes, HostSize, Allowed, OpensExactlyWhen, LocatesHeaders}
 use Rattle.header_claims.proofs.Reflects.{Reflects, holds, fails, is_true, is_false}
 use Rattle.header_claims.proofs.RuleReflections.{lengths_reflects, code_reflects, codes_reflects, host_size_reflects}
 use Rattle.header_claims.proofs.FirstAcceptedLaws.{Found, search_says}
 use Rattle.header_claims.proofs.FoundLaws.{refused_is_not_accepted, found_accepts, found_only_accepts, found_refuses, found_refuses4, found_one}
+use Rattle.std.specs.Prelude.{Ok}
 
 module _ (candidates codes : List ℕ) (host_size : ℕ) where
   -- what opening gives where the tests before any candidate pass
@@ -27,15 +28,15 @@ module _ (candidates codes : List ℕ) (host_size : ℕ) where
       (search_says candidates codes host_size a)
 
   -- .. and where it accepts they pass
-  allowed_by : {layout : Layout} {a b c : Bool} (answer : Opened) → Reflects (Lengths candidates codes) a → Reflects (Codes codes) b
-      → Reflects (HostSize host_size) c → line (Refused 1) a (line (Refused 2) b (line (Refused 3) c answer)) ≡ Accepted layout
+  allowed_by : {layout : Layout} {a b c : Bool} (answer : Answer Layout) → Reflects (Lengths candidates codes) a → Reflects (Codes codes) b
+      → Reflects (HostSize host_size) c → line (refuse 1) a (line (refuse 2) b (line (refuse 3) c answer)) ≡ Ok layout
       → Allowed candidates codes host_size
   allowed_by answer (holds l) (holds k) (holds s) e = record { lengths = l; codes_known = k; size = s }
   allowed_by answer (holds l) (holds k) (fails f) e = absurd (refused_is_not_accepted e)
   allowed_by answer (holds l) (fails f) t e = absurd (refused_is_not_accepted e)
   allowed_by answer (fails f) r t e = absurd (refused_is_not_accepted e)
 
-  pub opened_allowed : (layout : Layout) → opened candidates codes host_size ≡ Accepted layout → Allowed candidates codes host_size
+  pub opened_allowed : (layout : Layout) → opened candidates codes host_size ≡ Ok layout → Allowed candidates codes host_size
   unfolding opened
   opened_allowed layout =
       allowed_by (searched candidates host_size codes) (lengths_reflects candidates codes) (codes_reflects codes)
@@ -61,7 +62,7 @@ opens_exactly_when candidates codes host_size =
     }
 
 located_at : (code host_size : ℕ) → code ≤ 3 → HostSize host_size
-    → located code host_size ≡ Number (offset_from (location_of code).origin host_size (location_of code).distance)
+    → located code host_size ≡ Ok (offset_from (location_of code).origin host_size (location_of code).distance)
 unfolding located
 located_at code host_size known size = simp (is_true (code_reflects code) known, is_true (host_size_reflects host_size) size)
 

@@ -6,12 +6,10 @@ use lib.ListN.{length, replicate}
 use borrow.Author.Tests.{leb-true}
 use Rattle.fields.specs.Bytes.{part}
 use Rattle.byte_tests.specs.Tests.{same_bytes, all_zero}
-use Rattle.layout.specs.declared.{Opened.{Opened, TheVariants.Accepted}}
 use Rattle.header_format.specs.Format.{magic_number}
 use Rattle.opening.specs.Opening.{opened}
 use Rattle.key_bytes.specs.KeyBytes.{keys_offset, keys_size, KeyBytes}
 use Rattle.new_header.specs.NewHeader.{new_fields, new_header}
-use Rattle.answers.specs.declared.Written.{Written, TheVariants.Done}
 use Rattle.header_writing.specs.HeaderWriting.{asked_layout, header_left}
 use Rattle.header_writing.proofs.AnswerLaws.{Passed, done_passed, done_lengths}
 use Rattle.header_laws.proofs.{OpenedOne.opened_one, Parts.{Parts, new_header_parts, new_header_bytes}, ReadBack.judged_back}
@@ -20,8 +18,11 @@ use Rattle.header_claims.specs.{Numbers.AllZero, Writing.{Request, Passable, ans
 use Rattle.header_claims.proofs.HeaderLaws.{all_zero_reflects}
 use Rattle.header_claims.proofs.Reflects.{holds_true}
 use Rattle.header_claims.proofs.WritingLaws.{asked, asked_is, code_passes}
+use Rattle.std.specs.Prelude.{Ok, ⊤}
+use Rattle.answers.specs.Answers.{Answer}
+use Rattle.layout.specs.declared.Layout.{Layout}
 
-module _ (r : Request) (before : List ℕ) (done : answer_to r before ≡ Done) where
+module _ (r : Request) (before : List ℕ) (done : answer_to r before ≡ Ok tt) where
   passed : Passed r.code (asked r) (length r.salt) (length r.keys) (length before)
   passed = done_passed r.code (asked r) (length r.salt) (length r.keys) (length before) done
 
@@ -30,12 +31,12 @@ module _ (r : Request) (before : List ℕ) (done : answer_to r before ≡ Done) 
 
   left_is : left_by r before ≡ new_header (asked r) r.salt r.keys
   unfolding header_left
-  left_is = ap (λ (answer : Written). header_left answer (asked r) r.salt r.keys before) done
+  left_is = ap (λ (answer : Answer ⊤). header_left answer (asked r) r.salt r.keys before) done
 
   parts : Parts (new_fields (asked r)) (asked r).magic r.salt r.keys (new_header (asked r) r.salt r.keys)
   parts = new_header_parts (asked r) r.salt r.keys sizes.0 sizes.1.0
 
-  opens : Passable r → opened (left_by r before) (r.code ∷ []) r.host_size ≡ Accepted (asked r)
+  opens : Passable r → opened (left_by r before) (r.code ∷ []) r.host_size ≡ Ok (asked r)
   unfolding asked_layout
   opens p =
       let small = new_header_bytes (asked r) r.salt r.keys sizes.0 sizes.1.0 p.salt_bytes p.key_bytes in
@@ -49,14 +50,14 @@ module _ (r : Request) (before : List ℕ) (done : answer_to r before ≡ Done) 
   told magic e = asked_is r (holds_true (code_passes r (length before)) passed.known_code) ∙ ap (λ (m : ℕ). layout_for m r) e
 
   opens_as : (magic : ℕ) → magic_number r.magic ≡ magic → Passable r
-      → opened (left_by r before) (r.code ∷ []) r.host_size ≡ Accepted (layout_for magic r)
-  opens_as magic e p = opens p ∙ ap Accepted (told magic e)
+      → opened (left_by r before) (r.code ∷ []) r.host_size ≡ Ok (layout_for magic r)
+  opens_as magic e p = opens p ∙ ap Ok (told magic e)
 
   keys_given_lem : Passable r → (borrowed : ℕ × ℕ) (given : List ℕ) (returned : ℕ × ℕ)
       → KeyBytes (opened (left_by r before) (r.code ∷ []) r.host_size) (left_by r before) borrowed given returned → given ≡ r.keys
   unfolding keys_offset keys_size asked_layout
   keys_given_lem p borrowed given returned post =
-      let told = subst (λ (answer : Opened). KeyBytes answer (left_by r before) borrowed given returned) (opens p) post in
+      let told = subst (λ (answer : Answer Layout). KeyBytes answer (left_by r before) borrowed given returned) (opens p) post in
       told.content ∙ ap (part 256 256) left_is ∙ parts.keys_part
 
   -- a part of zeros

@@ -7,7 +7,6 @@ use lib.ListN.{get_or}
 use Rattle.layout.specs.declared.Layout.{Layout}
 use Rattle.sector_map.specs.SectorMap.{sectors, sector_count, host_sector, user_sector}
 use Rattle.tweaks.specs.Tweaks.{tweak_number, block_of, tweak_of}
-use Rattle.answers.specs.declared.Numbered.TheVariants.{Number}
 use Rattle.header_claims.specs.{Header.{sector_size, data_area, Keeps}, Opening.{HostSize, IsAccepted, TellsAt}}
 use Rattle.header_claims.specs.SectorMap.{Sound, MapsSectors, RefusesUnsound, MapsExactly, OpenedIsSound}
 use Rattle.header_claims.proofs.Reflects.{is_true, is_false}
@@ -17,6 +16,7 @@ use Rattle.header_claims.proofs.SoundLaws.{sound_reflects, sound_on_sectors}
 use Rattle.header_claims.proofs.BlockLaws.{block_of_number}
 use Rattle.header_claims.proofs.MapLaws.{is_number, is_refused, number_says}
 use Rattle.header_claims.proofs.MapLaws.{host_sector_answers, user_sector_answers, host_sector_in_area, in_area_outside}
+use Rattle.std.specs.Prelude.{Ok}
 
 maps_sectors : (layout : Layout) → Sound layout → MapsSectors layout
 unfolding sector_count sectors tweak_number tweak_of block_of
@@ -31,10 +31,10 @@ maps_sectors layout s =
       past = λ user h. is_refused (there user) (λ l. omega arith);
       back = λ host. is_number (back host);
       back_past = λ host. is_refused (back host);
-      there_and_back = λ user host e. let h = number_says (there user) e in is_number (back host) (inside user host e) ∙ ap Number (omega arith);
-      back_and_there = λ user host e. let h = number_says (back host) e in is_number (there user) (omega arith) ∙ ap Number (omega arith);
+      there_and_back = λ user host e. let h = number_says (there user) e in is_number (back host) (inside user host e) ∙ ap Ok (omega arith);
+      back_and_there = λ user host e. let h = number_says (back host) e in is_number (there user) (omega arith) ∙ ap Ok (omega arith);
       injective = λ user other host e f. omega (arith, number_says (there user) e, number_says (there other) f);
-      onto = λ host i. (host - layout.data_start / 512, is_number (there _) (omega arith) ∙ ap Number (omega arith));
+      onto = λ host i. (host - layout.data_start / 512, is_number (there _) (omega arith) ∙ ap Ok (omega arith));
       inside = inside;
       outside = λ user host e. in_area_outside layout s host (inside user host e);
       tweak = λ user. refl;

@@ -7,7 +7,8 @@ use lib.{Dec.{leb, eqb}, ListN.{length, length-take, length-drop}}
 use borrow.Author.Tests.{eq-eqb, leb-true}
 use Rattle.bits.specs.Bits.{Bytes}
 use Rattle.fields.specs.Bytes.{part}
-use Rattle.layout.specs.{Rules.{host_size_rule, sector_size_rule, data_area_rule}, declared.{Layout.Layout, Opened.TheVariants.Accepted}}
+use Rattle.layout.specs.Rules.{host_size_rule, sector_size_rule, data_area_rule}
+use Rattle.layout.specs.declared.Layout.{Layout}
 use Rattle.layout.proofs.RuleLaws.{and_true_right}
 use Rattle.locations.specs.Locations.{code_rule, location_of}
 use Rattle.header_format.specs.Format.{magic_number, version_rule}
@@ -17,7 +18,6 @@ use Rattle.opening.specs.Opening.{opened}
 use Rattle.header_format.specs.Format.{new_lengths_rule}
 use Rattle.new_header.specs.NewHeader.{new_header}
 use Rattle.header_writing.specs.HeaderWriting.{asked_layout, header_answer, header_left}
-use Rattle.answers.specs.declared.Written.{Written, TheVariants.Done}
 use Rattle.header_laws.proofs.{OpenedOne.opened_one, WrittenAgain.{Zeros, written_again_lem, again_zeros, vera_zeros}}
 use Rattle.header_claims.specs.{Header.{vera_letters, true_letters}, Opening.{Codes, Allowed}}
 use Rattle.header_claims.specs.{Numbers.AllZero, Writing.{Request, answer_to, left_by, taken_apart, WritesAgain}}
@@ -27,8 +27,10 @@ use Rattle.header_claims.proofs.ReadsBack.{vera_number, true_number}
 use Rattle.header_claims.proofs.Reflects.{is_true, holds_true}
 use Rattle.header_claims.proofs.RuleReflections.{code_reflects, host_size_reflects}
 use Rattle.header_claims.proofs.WritingLaws.{asked}
+use Rattle.std.specs.Prelude.{Ok, ⊤}
+use Rattle.answers.specs.Answers.{Answer}
 
-module _ (h : List ℕ) (code host_size : ℕ) (layout : Layout) (before : List ℕ) (e : opened h (code ∷ []) host_size ≡ Accepted layout)
+module _ (h : List ℕ) (code host_size : ℕ) (layout : Layout) (before : List ℕ) (e : opened h (code ∷ []) host_size ≡ Ok layout)
     (small : Bytes h) (room : length before ≡ 512) where
   allowed : Allowed h (code ∷ []) host_size
   allowed = opened_allowed h (code ∷ []) host_size layout e
@@ -100,7 +102,7 @@ module _ (h : List ℕ) (code host_size : ℕ) (layout : Layout) (before : List 
           sector_size = layout.sector_size;
         }
 
-    done : answer_to request before ≡ Done
+    done : answer_to request before ≡ Ok tt
     unfolding header_answer new_lengths_rule
     done =
         let size = length (part 0 64 h) in
@@ -122,7 +124,7 @@ module _ (h : List ℕ) (code host_size : ℕ) (layout : Layout) (before : List 
     left_is : left_by request before ≡ new_header layout (part 0 64 h) (part 256 256 h)
     unfolding header_left
     left_is =
-        ap (λ (answer : Written). header_left answer (asked request) (part 0 64 h) (part 256 256 h) before) done
+        ap (λ (answer : Answer ⊤). header_left answer (asked request) (part 0 64 h) (part 256 256 h) before) done
         ∙ ap (λ (l : Layout). new_header l (part 0 64 h) (part 256 256 h)) same_layout
 
     zeros_same : Zeros h → left_by request before ≡ h

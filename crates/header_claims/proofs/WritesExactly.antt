@@ -4,7 +4,6 @@ use Prim.Native.Nat.{ℕ, zero, suc, ◌<◌}
 use native.Mathlib.Omega.{arith}
 use mathlib.Core.{Path.{◌≡◌, refl, sym, ap, subst, ◌∙◌}, Logic.{◌⊎◌, inl, inr}, Bool.Bool, List.List}
 use lib.ListN.{length}
-use Rattle.answers.specs.declared.Written.{Written, TheVariants.{Done, Refused}}
 use Rattle.header_writing.specs.HeaderWriting.{header_answer, header_left}
 use Rattle.header_writing.proofs.AnswerLaws.{Passed, done_passed}
 use Rattle.header_claims.specs.Writing.{Request, answer_to, left_by, Check, place, refusal_of, Passes, FirstFailed, WritesExactly}
@@ -12,6 +11,9 @@ use Rattle.header_claims.specs.Writing.{right_lengths, known_magic, known_code, 
 use Rattle.header_claims.proofs.Reflects.{Reflects, holds, fails, is_true, is_false, holds_true, below_suc}
 use Rattle.header_claims.proofs.WritingLaws.{asked, lengths_pass, magic_passes, code_passes, host_passes, version_passes, sectors_pass}
 use Rattle.header_claims.proofs.WritingLaws.{area_passes}
+use Rattle.std.specs.Prelude.{Ok, Err, ⊤, Result}
+use Rattle.answers.specs.Answers.{Answer, refuse}
+use Rattle.answers.specs.declared.Refusal.{Refusal}
 
 -- the check at a place; no two have one place
 abbrev check_at : ℕ → Check
@@ -50,7 +52,7 @@ module _ (r : Request) (before : List ℕ) where
   abbrev size : ℕ
   size = length before
 
-  writes : ((check : Check) → Passes check r size) → answer_to r before ≡ Done
+  writes : ((check : Check) → Passes check r size) → answer_to r before ≡ Ok tt
   unfolding header_answer
   writes all =
       simp (
@@ -63,10 +65,10 @@ module _ (r : Request) (before : List ℕ) where
         is_true (area_passes r size (all known_code) (all allowed_sectors)) (all allowed_area),
       )
 
-  passed : answer_to r before ≡ Done → Passed r.code (asked r) (length r.salt) (length r.keys) size
+  passed : answer_to r before ≡ Ok tt → Passed r.code (asked r) (length r.salt) (length r.keys) size
   passed e = done_passed r.code (asked r) (length r.salt) (length r.keys) size e
 
-  only_writes_lem : answer_to r before ≡ Done → (check : Check) → Passes check r size
+  only_writes_lem : answer_to r before ≡ Ok tt → (check : Check) → Passes check r size
   only_writes_lem e right_lengths = holds_true (lengths_pass r size) (passed e).lengths
   only_writes_lem e known_magic = holds_true (magic_passes r size) (passed e).known_magic
   only_writes_lem e known_code = holds_true (code_passes r size) (passed e).known_code
@@ -77,7 +79,7 @@ module _ (r : Request) (before : List ℕ) where
       holds_true (area_passes r size (holds_true (code_passes r size) (passed e).known_code) (holds_true (sectors_pass r size) (passed e).sectors))
       (passed e).area
 
-  refuses : (check : Check) → FirstFailed check r size → answer_to r before ≡ Refused (refusal_of check)
+  refuses : (check : Check) → FirstFailed check r size → answer_to r before ≡ refuse (refusal_of check)
   unfolding header_answer place refusal_of
   refuses right_lengths f = simp (is_false (lengths_pass r size) f.failed)
   refuses known_magic f = simp (is_true (lengths_pass r size) (f.earlier right_lengths (omega arith)), is_false (magic_passes r size) f.failed)
@@ -122,9 +124,9 @@ module _ (r : Request) (before : List ℕ) where
         is_false (area_passes r size (f.earlier known_code (omega arith)) (f.earlier allowed_sectors (omega arith))) f.failed,
       )
 
-  unchanged : (number : ℕ) → answer_to r before ≡ Refused number → left_by r before ≡ before
+  unchanged : (refusal : Refusal) → answer_to r before ≡ Err refusal → left_by r before ≡ before
   unfolding header_left
-  unchanged number e = ap (λ (answer : Written). header_left answer (asked r) r.salt r.keys before) e
+  unchanged refusal e = ap (λ (answer : Answer ⊤). header_left answer (asked r) r.salt r.keys before) e
 
   -- the check at a place is passed
   abbrev PassesAt : ℕ → Type 0

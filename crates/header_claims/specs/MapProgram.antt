@@ -3,22 +3,22 @@
 use Prim.Native.{Nat.{ℕ, ◌+◌, ◌-◌, ◌*◌, ◌/◌, ◌^◌, ◌≤◌, ◌<◌}, Char.code}
 use Prim.Native.String as text
 use mathlib.Core.{Path.◌≡◌, List.{List, [], ◌∷◌, ◌++◌}}
-use Rattle.std.specs.Prelude.{length, get_or, take, drop}
+use Rattle.std.specs.Prelude.{length, get_or, take, drop, Ok}
 use Rattle.numbers.specs.Numbers.{big_endian}
-use Rattle.layout.specs.declared.{Layout.Layout, Opened.TheVariants.Refused}
+use Rattle.layout.specs.declared.Layout.{Layout}
 use Rattle.opening.specs.Opening.{opened}
 use Rattle.sector_map.specs.SectorMap.{sector_count, host_sector}
-use Rattle.answers.specs.declared.Numbered.TheVariants.{Number}
 use Rattle.map_input.specs.MapInput.{opened_input}
 use Rattle.map_output.specs.Decimal.{decimal}
 use Rattle.map_output.specs.MapOutput.{layout_lines, refusal_line, Rendered}
 use Rattle.header_claims.specs.SectorMap.{Sound}
+use Rattle.answers.specs.Answers.{refuse}
 
 -- the input: eight bytes that spell S, the first the most significant, then a code and a candidate; any other length is refused 1
 pub record ReadsInput : Type 0 where
   pub opens : (size : List ℕ) (code : ℕ) (candidate : List ℕ) → length size ≡ 8 → length candidate ≡ 512
       → opened_input (size ++ (code ∷ candidate)) ≡ opened candidate (code ∷ []) (big_endian size)
-  pub other_length : (input : List ℕ) → (length input ≡ 521 → ⊥) → opened_input input ≡ Refused 1
+  pub other_length : (input : List ℕ) → (length input ≡ 521 → ⊥) → opened_input input ≡ refuse 1
 
 -- the number that ASCII digits spell, written on from a number
 unfoldable pub spelled : ℕ → List ℕ → ℕ
@@ -68,9 +68,9 @@ pub record PrintsLines : Type 0 where
       ++ labelled "last" (decimal (layout.data_start / 512 + (layout.data_size / 512 - 1)))
   -- of a sound layout the last three are the map's
   pub mapped : (layout : Layout) → Sound layout
-      → (sector_count layout ≡ Number (layout.data_size / 512))
-      × (host_sector layout 0 ≡ Number (layout.data_start / 512))
-      × (host_sector layout (layout.data_size / 512 - 1) ≡ Number (layout.data_start / 512 + (layout.data_size / 512 - 1)))
+      → (sector_count layout ≡ Ok (layout.data_size / 512))
+      × (host_sector layout 0 ≡ Ok (layout.data_start / 512))
+      × (host_sector layout (layout.data_size / 512 - 1) ≡ Ok (layout.data_start / 512 + (layout.data_size / 512 - 1)))
   -- the one line of any refusal
   pub refusal : (number : ℕ) → refusal_line number ≡ labelled "refused" (decimal number)
   -- numbers of 64 bits are in decimal

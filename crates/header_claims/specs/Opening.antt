@@ -1,12 +1,12 @@
 -- Demand 2, first half (RULES.md, Opening): a volume opens exactly when some candidate is a header that keeps every line.
 -- `opened` is the definition that the contract of `opening::open` cites; the rules are stated apart from it. Assumes nothing.
-use Rattle.std.specs.Prelude.{ℕ, ◌-◌, ◌*◌, ◌%◌, ◌^◌, ◌≤◌, ◌<◌, length, get_or}
+use Rattle.std.specs.Prelude.{ℕ, ◌-◌, ◌*◌, ◌%◌, ◌^◌, ◌≤◌, ◌<◌, length, get_or, Ok}
 use mathlib.Core.{Path.◌≡◌, Logic.◌⊎◌, List.List}
-use Rattle.layout.specs.declared.{Layout.Layout, Opened.TheVariants.{Accepted, Refused}}
+use Rattle.layout.specs.declared.Layout.{Layout}
 use Rattle.locations.specs.Locations.{located}
 use Rattle.opening.specs.Opening.{opened}
-use Rattle.answers.specs.declared.Numbered.TheVariants as numbered
 use Rattle.header_claims.specs.Header.{bytes_at, IsHeader, Line, number, Keeps, FirstBroken, Tells}
+use Rattle.answers.specs.Answers.{refuse}
 
 -- n candidates of 512 bytes and n codes, n from 1 to 64
 pub record Lengths (candidates codes : List ℕ) : Type 0 where
@@ -63,21 +63,21 @@ pub record Allowed (candidates codes : List ℕ) (host_size : ℕ) : Type 0 wher
 -- the claim, for any lists of bytes and any number
 pub record OpensExactlyWhen (candidates codes : List ℕ) (host_size : ℕ) : Type 0 where
   -- before any candidate: 1, then 2, then 3
-  pub refuses1 : (Lengths candidates codes → ⊥) → opened candidates codes host_size ≡ Refused 1
-  pub refuses2 : Lengths candidates codes → (Codes codes → ⊥) → opened candidates codes host_size ≡ Refused 2
-  pub refuses3 : Lengths candidates codes → Codes codes → (HostSize host_size → ⊥) → opened candidates codes host_size ≡ Refused 3
+  pub refuses1 : (Lengths candidates codes → ⊥) → opened candidates codes host_size ≡ refuse 1
+  pub refuses2 : Lengths candidates codes → (Codes codes → ⊥) → opened candidates codes host_size ≡ refuse 2
+  pub refuses3 : Lengths candidates codes → Codes codes → (HostSize host_size → ⊥) → opened candidates codes host_size ≡ refuse 3
   -- the first accepted candidate gives the layout
   pub accepts : Allowed candidates codes host_size → (i : ℕ) → FirstAccepted candidates codes host_size i
-      → (layout : Layout) × (opened candidates codes host_size ≡ Accepted layout) × TellsAt candidates codes host_size i layout
+      → (layout : Layout) × (opened candidates codes host_size ≡ Ok layout) × TellsAt candidates codes host_size i layout
   -- and nothing else does
-  pub only_accepts : (layout : Layout) → opened candidates codes host_size ≡ Accepted layout
+  pub only_accepts : (layout : Layout) → opened candidates codes host_size ≡ Ok layout
       → Allowed candidates codes host_size × ((i : ℕ) × FirstAccepted candidates codes host_size i × TellsAt candidates codes host_size i layout)
   -- where none is accepted: the refusal of the first header, by the first line that it breaks
   pub refuses_by_header : Allowed candidates codes host_size → ((i : ℕ) → IsAccepted candidates codes host_size i → ⊥)
-      → (i : ℕ) (line : Line) → FirstHeader candidates codes host_size i line → opened candidates codes host_size ≡ Refused (number line)
+      → (i : ℕ) (line : Line) → FirstHeader candidates codes host_size i line → opened candidates codes host_size ≡ refuse (number line)
   -- where none is a header: 4
   pub refuses4 : Allowed candidates codes host_size → ((i : ℕ) → i < length codes → IsHeader (candidate candidates i) → ⊥)
-      → opened candidates codes host_size ≡ Refused 4
+      → opened candidates codes host_size ≡ refuse 4
   -- one of the three last cases holds
   pub one_holds : Allowed candidates codes host_size
       → ((i : ℕ) × FirstAccepted candidates codes host_size i)
@@ -87,9 +87,9 @@ pub record OpensExactlyWhen (candidates codes : List ℕ) (host_size : ℕ) : Ty
 
 -- the header locations: 0, 65,536, S-131,072 and S-65,536; a code above 3 is refused 2, and then a host size 3
 pub record LocatesHeaders (host_size : ℕ) : Type 0 where
-  pub main : HostSize host_size → located 0 host_size ≡ numbered.Number 0
-  pub hidden_main : HostSize host_size → located 1 host_size ≡ numbered.Number 65536
-  pub backup : HostSize host_size → located 2 host_size ≡ numbered.Number (host_size - 131072)
-  pub hidden_backup : HostSize host_size → located 3 host_size ≡ numbered.Number (host_size - 65536)
-  pub unknown_code : (code : ℕ) → 3 < code → located code host_size ≡ numbered.Refused 2
-  pub unknown_size : (code : ℕ) → code ≤ 3 → (HostSize host_size → ⊥) → located code host_size ≡ numbered.Refused 3
+  pub main : HostSize host_size → located 0 host_size ≡ Ok 0
+  pub hidden_main : HostSize host_size → located 1 host_size ≡ Ok 65536
+  pub backup : HostSize host_size → located 2 host_size ≡ Ok (host_size - 131072)
+  pub hidden_backup : HostSize host_size → located 3 host_size ≡ Ok (host_size - 65536)
+  pub unknown_code : (code : ℕ) → 3 < code → located code host_size ≡ refuse 2
+  pub unknown_size : (code : ℕ) → code ≤ 3 → (HostSize host_size → ⊥) → located code host_size ≡ refuse 3

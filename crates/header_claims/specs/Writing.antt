@@ -1,11 +1,10 @@
 -- Writing headers (RULES.md, Writing headers): exactly when one is written, that opening reads it back, and that a header which opened, taken
 -- apart and written again, is the same. `header_answer`, `header_left` and `header_over` are the definitions that the contracts of
 -- `header_writing` and `new_header` cite; the rules are stated apart from them. Assumes nothing.
-use Rattle.std.specs.Prelude.{ℕ, ◌^◌, ◌≤◌, ◌<◌}
+use Rattle.std.specs.Prelude.{ℕ, ◌^◌, ◌≤◌, ◌<◌, length, Ok, Err, ⊤}
 use mathlib.Core.{Path.◌≡◌, Logic.{◌⊎◌, ◌↔◌}, Bool.true, List.{List, [], ◌∷◌}}
-use Rattle.std.specs.Prelude.{length}
 use Rattle.bits.specs.Bits.{Bytes}
-use Rattle.layout.specs.declared.{Layout.Layout, Opened.TheVariants.Accepted}
+use Rattle.layout.specs.declared.Layout.{Layout}
 use Rattle.opening.specs.Opening.{opened}
 use Rattle.key_bytes.specs.KeyBytes.{KeyBytes}
 use Rattle.numbers.specs.Numbers.{big_endian_bytes}
@@ -13,9 +12,10 @@ use Rattle.crc32.specs.Crc32.{crc32}
 use Rattle.header_format.specs.Format.{new_lengths_rule}
 use Rattle.new_header.specs.NewHeader.{header_over}
 use Rattle.header_writing.specs.HeaderWriting.{asked_layout, header_answer, header_left}
-use Rattle.answers.specs.declared.Written.{Written, TheVariants.{Done, Refused}}
 use Rattle.header_claims.specs.Header.{bytes_at, vera_letters, true_letters, Supported, SectorSize, DataArea}
 use Rattle.header_claims.specs.{Numbers.AllZero, Opening.{HostSize, kind_of}}
+use Rattle.answers.specs.Answers.{Answer, refuse}
+use Rattle.answers.specs.declared.Refusal.{Refusal}
 
 -- what the writer is asked for
 pub record Request : Type 0 where
@@ -42,7 +42,7 @@ layout_asked r =
     asked_layout r.magic r.version r.min_program_version r.code r.host_size r.data_start r.data_size r.sector_size
 
 -- the answer of the contract, for the bytes that the header goes over
-abbrev pub answer_to : Request → List ℕ → Written
+abbrev pub answer_to : Request → List ℕ → Answer ⊤
 answer_to r before =
     header_answer r.code (layout_asked r) (length r.salt) (length r.keys) (length before)
 
@@ -107,23 +107,23 @@ pub record FirstFailed (check : Check) (r : Request) (size : ℕ) : Type 0 where
 
 -- exactly when: written where every check is passed, and else refused by the first that is not
 pub record WritesExactly (r : Request) (before : List ℕ) : Type 0 where
-  pub writes : ((check : Check) → Passes check r (length before)) → answer_to r before ≡ Done
-  pub only_writes : answer_to r before ≡ Done → (check : Check) → Passes check r (length before)
-  pub refuses : (check : Check) → FirstFailed check r (length before) → answer_to r before ≡ Refused (refusal_of check)
+  pub writes : ((check : Check) → Passes check r (length before)) → answer_to r before ≡ Ok tt
+  pub only_writes : answer_to r before ≡ Ok tt → (check : Check) → Passes check r (length before)
+  pub refuses : (check : Check) → FirstFailed check r (length before) → answer_to r before ≡ refuse (refusal_of check)
   pub one_holds : ((check : Check) → Passes check r (length before)) ⊎ ((check : Check) × FirstFailed check r (length before))
   -- a refusal writes nothing
-  pub unchanged : (number : ℕ) → answer_to r before ≡ Refused number → left_by r before ≡ before
+  pub unchanged : (refusal : Refusal) → answer_to r before ≡ Err refusal → left_by r before ≡ before
 
 -- read back: what is written opens at its code and host size, with the same fields, keys and salt, and its unused bytes are zero
 pub record ReadsBack (r : Request) (before : List ℕ) : Type 0 where
-  pub vera_opens : answer_to r before ≡ Done → Passable r → r.magic ≡ vera_letters
-      → opened (left_by r before) (r.code ∷ []) r.host_size ≡ Accepted (layout_for 0 r)
-  pub true_opens : answer_to r before ≡ Done → Passable r → r.magic ≡ true_letters
-      → opened (left_by r before) (r.code ∷ []) r.host_size ≡ Accepted (layout_for 1 r)
-  pub keys_given : answer_to r before ≡ Done → Passable r → (borrowed : ℕ × ℕ) (given : List ℕ) (returned : ℕ × ℕ)
+  pub vera_opens : answer_to r before ≡ Ok tt → Passable r → r.magic ≡ vera_letters
+      → opened (left_by r before) (r.code ∷ []) r.host_size ≡ Ok (layout_for 0 r)
+  pub true_opens : answer_to r before ≡ Ok tt → Passable r → r.magic ≡ true_letters
+      → opened (left_by r before) (r.code ∷ []) r.host_size ≡ Ok (layout_for 1 r)
+  pub keys_given : answer_to r before ≡ Ok tt → Passable r → (borrowed : ℕ × ℕ) (given : List ℕ) (returned : ℕ × ℕ)
       → KeyBytes (opened (left_by r before) (r.code ∷ []) r.host_size) (left_by r before) borrowed given returned → given ≡ r.keys
-  pub salt_first : answer_to r before ≡ Done → bytes_at 0 64 (left_by r before) ≡ r.salt
-  pub unused_zero : answer_to r before ≡ Done → AllZero (bytes_at 76 16 (left_by r before)) × AllZero (bytes_at 132 120 (left_by r before))
+  pub salt_first : answer_to r before ≡ Ok tt → bytes_at 0 64 (left_by r before) ≡ r.salt
+  pub unused_zero : answer_to r before ≡ Ok tt → AllZero (bytes_at 76 16 (left_by r before)) × AllZero (bytes_at 132 120 (left_by r before))
 
 -- what stands in a new header, by its offsets: H is V for a hidden volume and else 0, E is V, no flag is set, and the reserved bytes are
 -- zero; the second checksum takes in the first
@@ -172,7 +172,7 @@ taken_apart magic h code layout =
 
 -- written again: a header that opened is the same for VERA, and for TRUE exactly where its unused bytes are zero
 pub record WritesAgain (h : List ℕ) (code host_size : ℕ) (layout : Layout) (before : List ℕ) : Type 0 where
-  pub vera_again : opened h (code ∷ []) host_size ≡ Accepted layout → Bytes h → length before ≡ 512 → layout.magic ≡ 0
+  pub vera_again : opened h (code ∷ []) host_size ≡ Ok layout → Bytes h → length before ≡ 512 → layout.magic ≡ 0
       → left_by (taken_apart vera_letters h code layout) before ≡ h
-  pub true_again : opened h (code ∷ []) host_size ≡ Accepted layout → Bytes h → length before ≡ 512 → layout.magic ≡ 1
+  pub true_again : opened h (code ∷ []) host_size ≡ Ok layout → Bytes h → length before ≡ 512 → layout.magic ≡ 1
       → (left_by (taken_apart true_letters h code layout) before ≡ h) ↔ (AllZero (bytes_at 76 16 h) × AllZero (bytes_at 132 120 h))

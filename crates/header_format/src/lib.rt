@@ -21,7 +21,7 @@ pub const VERA_MAGIC: [u8; 4] = *b"VERA";
 
 pub const TRUE_MAGIC: [u8; 4] = *b"TRUE";
 
-// The magics, as a layout has them.
+// The magics, as a layout has them: numbers, since a layout may hold any.
 pub const VERA: u64 = 0;
 
 pub const TRUE: u64 = 1;

@@ -4,16 +4,19 @@ use native.Mathlib.Omega.{arith}
 use mathlib.Core.{Path.{◌≡◌, refl, ap, ◌∙◌}, Bool.true, List.{List, [], ◌∷◌}}
 use lib.{ListN.length, Seq.take_all}
 use borrow.Author.Tests.{eq-eqb}
-use Rattle.layout.specs.{Rules.host_size_rule, declared.Opened.{Opened, TheVariants.{Accepted, Refused}}}
+use Rattle.layout.specs.Rules.{host_size_rule}
 use Rattle.locations.specs.Locations.{code_rule, location_of}
 use Rattle.header.specs.Header.{judge}
 use Rattle.opening.specs.Opening.{lengths_rule, codes_rule, candidate_at, judgements, further, searched, opened}
+use Rattle.std.specs.Prelude.{Ok, Err}
+use Rattle.answers.specs.Answers.{Answer, refuse}
+use Rattle.layout.specs.declared.Layout.{Layout}
 
 -- after no header, the answer is that of the next candidate
-further_first : (next : Opened) → further (Refused 4) next ≡ next
+further_first : (next : Answer Layout) → further (refuse 4) next ≡ next
 unfolding further
-further_first (Accepted layout) = refl
-further_first (Refused number) = refl
+further_first (Ok layout) = refl
+further_first (Err refusal) = refl
 
 first_candidate : (h : List ℕ) → length h ≡ 512 → candidate_at 0 h ≡ h
 unfolding candidate_at

@@ -14,7 +14,7 @@ use Rattle.numbers.proofs.WrittenLaws.{big_endian_bytes_spell}
 use Rattle.crc32.specs.Crc32.{crc32}
 use Rattle.crc32.proofs.BoundLaws.{crc32_lt}
 use Rattle.layout.specs.Rules.{standard, hidden, multiple, host_size_rule, sector_size_rule, data_area_rule, place_rule, sectors_rule}
-use Rattle.layout.specs.declared.{Layout.Layout, Opened.TheVariants.Accepted}
+use Rattle.layout.specs.declared.Layout.{Layout}
 use Rattle.layout.proofs.{RuleLaws.{and_true_left, and_true_right, host_size_most, place_ends, size_least}, SectorSizeLaws.sector_size_most}
 use Rattle.header_format.specs.Format.{checked_field, magic_number}
 use Rattle.header.specs.Header.{magic_of, fields_of, checksums_match}
@@ -23,6 +23,7 @@ use Rattle.header_format.specs.Format.{version_rule}
 use Rattle.header_format.specs.declared.Fields.{Fields}
 use Rattle.new_header.specs.NewHeader.{magic_bytes, new_fields}
 use Rattle.header_laws.proofs.Parts.{Parts}
+use Rattle.std.specs.Prelude.{Ok}
 
 -- numbers that their fields have room for
 pub record Small (f : Fields) : Type 0 where
@@ -161,7 +162,7 @@ module _ (layout : Layout) (host : host_size_rule layout.host_size ≡ true) (se
   -- the judgement of a header with the parts of a new one
   pub judged_back : {salt keys h : List ℕ} → Parts (new_fields layout) layout.magic salt keys h → Bytes keys → Bytes h → layout.magic ≤ 1
       → layout.min_program_version < 256 ^ 2 → version_rule layout.magic layout.version ≡ true
-      → judge layout.kind layout.host_size layout.candidate h ≡ Accepted layout
+      → judge layout.kind layout.host_size layout.candidate h ≡ Ok layout
   unfolding judge flags_rule new_fields accepted_layout
   judged_back {h = h} p small_keys small known program supported =
       let fields = fields_back p (new_fields_small (version_small_lem layout.magic layout.version supported) program) in
@@ -174,4 +175,4 @@ module _ (layout : Layout) (host : host_size_rule layout.host_size ≡ true) (se
       let hidden_size : hidden_size_rule layout.kind (fields_of h).hidden_size (fields_of h).data_size ≡ true = rw fields hidden_size_kept in
       let data_area : area_rule told (fields_of h).encrypted_size ≡ true = rw (magic, fields) (area_kept layout.magic) in
       let same : told ≡ layout = rw (magic, fields) refl in
-      simp (header_back p known small_keys small, version, reserved, flags, sector_size, hidden_size, data_area) (ap Accepted same)
+      simp (header_back p known small_keys small, version, reserved, flags, sector_size, hidden_size, data_area) (ap Ok same)

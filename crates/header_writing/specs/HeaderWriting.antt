@@ -1,7 +1,7 @@
 -- Writing a header (RULES.md, Writing headers): the answer by lengths and numbers alone, and what is left.
 -- What the contracts of `header_writing` cite, in the rules' order. Assumes nothing.
-use Rattle.std.specs.Prelude.{ℕ, List, leb}
-use Rattle.answers.specs.{Answers.line, declared.Written.{Written, TheVariants.{Done, Refused}}}
+use Rattle.std.specs.Prelude.{ℕ, List, leb, Ok, Err, ⊤}
+use Rattle.answers.specs.Answers.{line, Answer, refuse}
 use Rattle.layout.specs.{Rules.{host_size_rule, sector_size_rule, data_area_rule}, declared.Layout.Layout}
 use Rattle.locations.specs.Locations.{code_rule, location_of}
 use Rattle.header_format.specs.Format.{truecrypt, magic_number, version_rule, new_lengths_rule}
@@ -23,17 +23,17 @@ asked_layout magic version min_program_version code host_size data_start data_si
     }
 
 -- the answer: 1 for the lengths, 19 for the magic, and then the reader's own rules, by the reader's numbers
-unfoldable pub header_answer : ℕ → Layout → ℕ → ℕ → ℕ → Written
+unfoldable pub header_answer : ℕ → Layout → ℕ → ℕ → ℕ → Answer ⊤
 header_answer code layout salt_size keys_size header_size =
-    line (Refused 1) (new_lengths_rule salt_size keys_size header_size)
-    (line (Refused 19) (leb layout.magic truecrypt)
-    (line (Refused 2) (code_rule code)
-    (line (Refused 3) (host_size_rule layout.host_size)
-    (line (Refused 5) (version_rule layout.magic layout.version)
-    (line (Refused 8) (sector_size_rule layout.sector_size)
-    (line (Refused 10) (data_area_rule layout) Done))))))
+    line (refuse 1) (new_lengths_rule salt_size keys_size header_size)
+    (line (refuse 19) (leb layout.magic truecrypt)
+    (line (refuse 2) (code_rule code)
+    (line (refuse 3) (host_size_rule layout.host_size)
+    (line (refuse 5) (version_rule layout.magic layout.version)
+    (line (refuse 8) (sector_size_rule layout.sector_size)
+    (line (refuse 10) (data_area_rule layout) (Ok tt)))))))
 
 -- what the writer leaves: the header, and where it refuses the bytes as they were
-unfoldable pub header_left : Written → Layout → List ℕ → List ℕ → List ℕ → List ℕ
-header_left Done layout salt keys before = new_header layout salt keys
-header_left (Refused number) layout salt keys before = before
+unfoldable pub header_left : Answer ⊤ → Layout → List ℕ → List ℕ → List ℕ → List ℕ
+header_left (Ok done) layout salt keys before = new_header layout salt keys
+header_left (Err refusal) layout salt keys before = before

@@ -3,7 +3,6 @@
 #![tactic(auto)]
 
 ghost use Rattle.std.specs.Prelude.{◌≡◌};
-ghost use Rattle.layout.specs.Opened.{opened_refusal};
 ghost use Rattle.layout.specs.Rules.{host_size_rule, sector_size_rule, place_rule, sectors_rule, data_area_rule, sound};
 
 // The kinds of a volume, as a layout has them.
@@ -22,7 +21,8 @@ pub const MIN_HOST_SIZE: u64 = 262_656;
 pub const MAX_HOST_SIZE: u64 = 1_125_899_906_842_624;
 
 // A volume's place in its host, as its header and the host's size tell it (RULES.md, Opening), with
-// the rules' letters behind the names. A caller may make one up: nothing is assumed of the numbers.
+// the rules' letters behind the names. A caller may make one up: nothing is assumed of the numbers, so kind and
+// magic are no enums either. `is_sound` answers for each number, and claims speak of kinds and magics that are none.
 #[derive(Clone, Copy)]
 pub struct Layout {
     pub host_size: u64, // S
@@ -36,70 +36,36 @@ pub struct Layout {
     pub sector_size: u64, // Z
 }
 
-// A layout, or a refusal number.
-#[derive(Clone, Copy)]
-pub enum Opened {
-    Accepted(Layout),
-    Refused(u8),
-}
-
-// The refusal number of an answer, 0 where it is a layout.
-pub fn refusal(opened: Opened) -> u8
-    ensures { result ≡ opened_refusal opened }
-{
-    match opened {
-        Opened::Accepted(_) => 0,
-        Opened::Refused(number) => number,
-    }
-}
-
 // Whether a host may have this size.
+#[tactic(auto, unfolding(crate::specs::Rules::host_size_rule))]
 pub fn is_host_size(host_size: u64) -> bool
     ensures { result ≡ host_size_rule host_size }
 {
-    if host_size % SECTOR_SIZE != 0 {
-        return false;
-    }
-    if host_size < MIN_HOST_SIZE {
-        return false;
-    }
-    host_size <= MAX_HOST_SIZE
+    host_size % SECTOR_SIZE == 0 && MIN_HOST_SIZE <= host_size && host_size <= MAX_HOST_SIZE
 }
 
 // Whether a disk's own sectors may have this size.
+#[tactic(auto, unfolding(crate::specs::Rules::sector_size_rule))]
 pub fn is_sector_size(size: u64) -> bool
     ensures { result ≡ sector_size_rule size }
 {
-    if size == 512 {
-        return true;
-    }
-    if size == 1_024 {
-        return true;
-    }
-    if size == 2_048 {
-        return true;
-    }
-    size == 4_096
+    matches!(size, 512 | 1_024 | 2_048 | 4_096)
 }
 
 // Whether a layout's data area is one that its kind may have in its host.
+#[tactic(auto, unfolding(crate::specs::Rules::data_area_rule))]
 pub fn is_data_area(layout: Layout) -> bool
     ensures { result ≡ data_area_rule layout }
 {
-    if !is_of_sectors(layout) {
-        return false;
-    }
-    is_in_place(layout)
+    is_of_sectors(layout) && is_in_place(layout)
 }
 
 // Whether a layout keeps the rules for its host's size and its data area, its sector size among them.
+#[tactic(auto, unfolding(crate::specs::Rules::sound))]
 pub fn is_sound(layout: Layout) -> bool
     ensures { result ≡ sound layout }
 {
-    if !is_host_size(layout.host_size) {
-        return false;
-    }
-    is_data_area(layout)
+    is_host_size(layout.host_size) && is_data_area(layout)
 }
 
 // Whether the data area is not empty, and it, its start and the host are of whole sectors of the disk. A sector
@@ -117,30 +83,20 @@ fn is_of_sectors(layout: Layout) -> bool
     (layout.data_size | layout.data_start | layout.host_size) & below == 0
 }
 
-// Whether the data area lies where its kind's may. A sum past 2^64 wraps to less than either number.
+// Whether the data area lies where its kind's may.
 fn is_in_place(layout: Layout) -> bool
     ensures { result ≡ place_rule layout }
 {
     let start = layout.data_start;
-    let end = std::num::wrapping_add_u64(start, layout.data_size);
-    if end < start {
+    let Some(end) = start.checked_add(layout.data_size) else {
         return false;
-    }
-    if layout.host_size < HEADERS_SIZE {
+    };
+    let Some(backups) = layout.host_size.checked_sub(HEADERS_SIZE) else {
         return false;
+    };
+    match layout.kind {
+        STANDARD => start == HEADERS_SIZE && end <= backups,
+        HIDDEN => HEADERS_SIZE <= start && end <= backups,
+        _ => false,
     }
-    let backups = layout.host_size - HEADERS_SIZE;
-    if layout.kind == STANDARD {
-        if start != HEADERS_SIZE {
-            return false;
-        }
-        return end <= backups;
-    }
-    if layout.kind != HIDDEN {
-        return false;
-    }
-    if start < HEADERS_SIZE {
-        return false;
-    }
-    end <= backups
 }

@@ -1,10 +1,10 @@
 -- Where a header is read (RULES.md, Header locations): what the contract of `locate` cites. Assumes nothing.
-use Rattle.std.specs.Prelude.{ℕ, ◌-◌}
+use Rattle.std.specs.Prelude.{ℕ, ◌-◌, Ok}
 use mathlib.Core.{Bool.Bool, List.{List, [], ◌∷◌}}
 use lib.{Dec.leb, ListN.get_or}
 use Rattle.layout.specs.Rules.{standard, hidden, host_size_rule}
 use Rattle.locations.specs.declared.{Origin.{Origin, TheVariants.{HostStart, HostEnd}}, Location.Location}
-use Rattle.answers.specs.{Answers.line, declared.Numbered.{Numbered, TheVariants.{Number, Refused}}}
+use Rattle.answers.specs.Answers.{line, Answer, refuse}
 
 -- the four header locations, by location code: distance, the end of the host it counts from, and the kind of volume
 unfoldable pub locations : List Location
@@ -29,7 +29,7 @@ offset_from HostStart host_size distance = distance
 offset_from HostEnd host_size distance = host_size - distance
 
 -- where the header of a code lies in a host, or the refusal: 2 for the code, then 3 for the host's size
-unfoldable pub located : ℕ → ℕ → Numbered
+unfoldable pub located : ℕ → ℕ → Answer ℕ
 located code host_size =
-    line (Refused 2) (code_rule code)
-    (line (Refused 3) (host_size_rule host_size) (Number (offset_from (location_of code).origin host_size (location_of code).distance)))
+    line (refuse 2) (code_rule code)
+    (line (refuse 3) (host_size_rule host_size) (Ok (offset_from (location_of code).origin host_size (location_of code).distance)))

@@ -5,7 +5,7 @@
 ghost use Rattle.std.specs.Prelude.{◌≡◌};
 ghost use Rattle.locations.specs.Locations.{located};
 
-use answers::Numbered;
+use answers::Refusal;
 
 // The largest location code.
 pub const MAX_CODE: u8 = 3;
@@ -17,7 +17,8 @@ pub enum Origin {
     HostEnd,
 }
 
-// A header location (RULES.md, Header locations), and the kind of volume that a header there makes.
+// A header location (RULES.md, Header locations), and the kind of volume that a header there makes: a number, as
+// `header::judge` takes it, which answers for any.
 #[derive(Clone, Copy)]
 pub struct Location {
     pub distance: u64,
@@ -51,21 +52,19 @@ pub const LOCATIONS: [Location; 4] = [
 
 // Where the header of a location code lies in a host of this size. Refuses 2 for a code above 3,
 // then 3 for the size.
-pub fn locate(code: u8, host_size: u64) -> Numbered
+#[tactic(auto, unfolding(crate::specs::Locations::located, crate::specs::Locations::code_rule, crate::specs::Locations::location_of, crate::specs::Locations::locations, crate::specs::Locations::offset_from))]
+pub fn locate(code: u8, host_size: u64) -> Result<u64, Refusal>
     ensures { result ≡ located code host_size }
 {
     if MAX_CODE < code {
-        return Numbered::Refused(2);
+        return Err(Refusal::new(answers::CODE));
     }
     if !layout::is_host_size(host_size) {
-        return Numbered::Refused(3);
+        return Err(Refusal::new(answers::HOST_SIZE));
     }
-    let locations = LOCATIONS;
-    let index = code as usize;
-    let entry = locations[index];
-    let origin = entry.origin;
-    match origin {
-        Origin::HostStart => Numbered::Number(entry.distance),
-        Origin::HostEnd => Numbered::Number(host_size - entry.distance),
-    }
+    let location = LOCATIONS[code as usize];
+    Ok(match location.origin {
+        Origin::HostStart => location.distance,
+        Origin::HostEnd => host_size - location.distance,
+    })
 }

@@ -5,7 +5,8 @@
 ghost use Rattle.std.specs.Prelude.{◌≡◌};
 ghost use Rattle.map_input.specs.MapInput.{opened_input};
 
-use layout::Opened;
+use answers::Refusal;
+use layout::Layout;
 
 // Where each part stands.
 const HOST_SIZE: usize = 0;
@@ -18,11 +19,12 @@ const CANDIDATE: usize = 9;
 pub const SIZE: usize = 521;
 
 // Opens the one candidate of the input. Fewer or more than 521 bytes are refused 1.
-pub fn open_input(input: &[u8]) -> Opened
+#[tactic(auto, unfolding(crate::specs::MapInput::opened_input))]
+pub fn open_input(input: &[u8]) -> Result<Layout, Refusal>
     ensures { result ≡ opened_input input.now }
 {
     if input.len() != SIZE {
-        return Opened::Refused(1);
+        return Err(Refusal::new(answers::LENGTHS));
     }
     let host_size = numbers::read_big_endian(&input[HOST_SIZE..CODE]);
     opening::open(&input[CANDIDATE..SIZE], &input[CODE..CANDIDATE], host_size)

@@ -5,15 +5,14 @@
 #![tactic(auto)]
 
 ghost use Rattle.std.specs.Prelude.{◌≡◌, length};
-ghost use Rattle.answers.specs.Answers.{numbered_refusal, written_refusal};
+ghost use Rattle.answers.specs.Answers.{refusal_number};
 ghost use Rattle.crc32.specs.Crc32.{crc32};
-ghost use Rattle.layout.specs.Opened.{opened_refusal};
 ghost use Rattle.locations.specs.Locations.{located};
 ghost use Rattle.opening.specs.Opening.{opened};
 ghost use Rattle.header_writing.specs.HeaderWriting.{asked_layout, header_answer, header_left};
 ghost use Rattle.sector_map.specs.SectorMap.{host_sector, user_sector};
 ghost use Rattle.tweaks.specs.Tweaks.{tweak_of};
-ghost use Rattle.making.specs.Views.{plain_view, protected_view, viewed_refusal};
+ghost use Rattle.making.specs.Views.{plain_view, protected_view};
 ghost use Rattle.boundary_numbers.specs.BoundaryNumbers.{layout_from, opened_left, viewed_left, block_left};
 ghost use Rattle.boundary_answers.specs.BoundaryAnswers.{numbered_left};
 ghost use Rattle.boundary_keys.specs.BoundaryKeys.{keys_left};
@@ -26,7 +25,7 @@ use boundary_numbers::{LAYOUT_SIZE, VIEW_SIZE};
 
 #[unsafe(no_mangle)]
 pub extern "C" fn ondristela_location(code: u8, host_size: u64, offset: &mut [u64; 1]) -> u64
-    ensures value { result ≡ numbered_refusal (located code host_size) }
+    ensures value { result ≡ refusal_number (located code host_size) }
     ensures offset_after { offset.new ≡ numbered_left (located code host_size) offset.old }
 {
     ondristela::ondristela_location(code, host_size, offset)
@@ -39,7 +38,7 @@ pub extern "C" fn ondristela_open(
     host_size: u64,
     layout: &mut [u64; LAYOUT_SIZE],
 ) -> u64
-    ensures value { result ≡ opened_refusal (opened candidates.now codes.now host_size) }
+    ensures value { result ≡ refusal_number (opened candidates.now codes.now host_size) }
     ensures layout_after { layout.new ≡ opened_left (opened candidates.now codes.now host_size) layout.old }
 {
     ondristela::ondristela_open(candidates, codes, host_size, layout)
@@ -52,7 +51,7 @@ pub extern "C" fn ondristela_keys(
     host_size: u64,
     range: &mut [u64; 2],
 ) -> u64
-    ensures value { result ≡ opened_refusal (opened candidates.now codes.now host_size) }
+    ensures value { result ≡ refusal_number (opened candidates.now codes.now host_size) }
     ensures range_after { range.new ≡ keys_left (opened candidates.now codes.now host_size) range.old }
 {
     ondristela::ondristela_keys(candidates, codes, host_size, range)
@@ -72,7 +71,7 @@ pub extern "C" fn ondristela_write_header(
     keys: &[u8],
     header: &mut [u8],
 ) -> u64
-    ensures value { result ≡ written_refusal (header_answer code (asked_layout magic.now version min_program_version code host_size data_start data_size sector_size) (length salt.now) (length keys.now) (length header.old)) }
+    ensures value { result ≡ refusal_number (header_answer code (asked_layout magic.now version min_program_version code host_size data_start data_size sector_size) (length salt.now) (length keys.now) (length header.old)) }
     ensures header_after { header.new ≡ header_left (header_answer code (asked_layout magic.now version min_program_version code host_size data_start data_size sector_size) (length salt.now) (length keys.now) (length header.old)) (asked_layout magic.now version min_program_version code host_size data_start data_size sector_size) salt.now keys.now header.old }
 {
     ondristela::ondristela_write_header(
@@ -96,7 +95,7 @@ pub extern "C" fn ondristela_host_sector(
     user: u64,
     host: &mut [u64; 1],
 ) -> u64
-    ensures value { result ≡ numbered_refusal (host_sector (layout_from layout.now) user) }
+    ensures value { result ≡ refusal_number (host_sector (layout_from layout.now) user) }
     ensures host_after { host.new ≡ numbered_left (host_sector (layout_from layout.now) user) host.old }
 {
     ondristela::ondristela_host_sector(layout, user, host)
@@ -108,7 +107,7 @@ pub extern "C" fn ondristela_user_sector(
     host: u64,
     user: &mut [u64; 1],
 ) -> u64
-    ensures value { result ≡ numbered_refusal (user_sector (layout_from layout.now) host) }
+    ensures value { result ≡ refusal_number (user_sector (layout_from layout.now) host) }
     ensures user_after { user.new ≡ numbered_left (user_sector (layout_from layout.now) host) user.old }
 {
     ondristela::ondristela_user_sector(layout, host, user)
@@ -120,7 +119,7 @@ pub extern "C" fn ondristela_tweak(
     user: u64,
     block: &mut [u8; 16],
 ) -> u64
-    ensures value { result ≡ numbered_refusal (tweak_of (layout_from layout.now) user).number }
+    ensures value { result ≡ refusal_number (tweak_of (layout_from layout.now) user).number }
     ensures block_after { block.new ≡ block_left (tweak_of (layout_from layout.now) user).number (tweak_of (layout_from layout.now) user).block block.old }
 {
     ondristela::ondristela_tweak(layout, user, block)
@@ -131,7 +130,7 @@ pub extern "C" fn ondristela_view_plain(
     layout: &[u64; LAYOUT_SIZE],
     view: &mut [u64; VIEW_SIZE],
 ) -> u64
-    ensures value { result ≡ viewed_refusal (plain_view (layout_from layout.now)) }
+    ensures value { result ≡ refusal_number (plain_view (layout_from layout.now)) }
     ensures view_after { view.new ≡ viewed_left (plain_view (layout_from layout.now)) view.old }
 {
     ondristela::ondristela_view_plain(layout, view)
@@ -143,7 +142,7 @@ pub extern "C" fn ondristela_view_protected(
     hidden: &[u64; LAYOUT_SIZE],
     view: &mut [u64; VIEW_SIZE],
 ) -> u64
-    ensures value { result ≡ viewed_refusal (protected_view (layout_from outer.now) (layout_from hidden.now)) }
+    ensures value { result ≡ refusal_number (protected_view (layout_from outer.now) (layout_from hidden.now)) }
     ensures view_after { view.new ≡ viewed_left (protected_view (layout_from outer.now) (layout_from hidden.now)) view.old }
 {
     ondristela::ondristela_view_protected(outer, hidden, view)

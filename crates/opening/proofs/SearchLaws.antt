@@ -6,13 +6,15 @@ use native.Mathlib.Numerals.{add-one}
 use native.Mathlib.Omega.{arith}
 use mathlib.Core.{Path.{◌≡◌, refl, sym, ap, ◌∙◌}, List.{List, [], ◌∷◌, ◌++◌, foldl, foldl-append}}
 use lib.{ListN.{length, get_or, take, drop, length-take, take-append-drop}, Seq.take-suc}
-use Rattle.layout.specs.declared.{Layout.Layout, Opened.{Opened, TheVariants.{Accepted, Refused}}}
+use Rattle.layout.specs.declared.Layout.{Layout}
 use Rattle.locations.specs.Locations.{location_of}
 use Rattle.header.specs.Header.{judge}
 use Rattle.opening.specs.Opening.{candidate_at, judgements, further, searched}
+use Rattle.std.specs.Prelude.{Ok}
+use Rattle.answers.specs.Answers.{Answer, refuse}
 
 -- an acceptance stays
-pub accepted_stays : (layout : Layout) (later : List Opened) → foldl further (Accepted layout) later ≡ Accepted layout
+pub accepted_stays : (layout : Layout) (later : List (Answer Layout)) → foldl further (Ok layout) later ≡ Ok layout
 unfolding further
 accepted_stays layout [] = refl
 accepted_stays layout (next ∷ later) = accepted_stays layout later
@@ -32,7 +34,7 @@ module _ (candidates : List ℕ) (host_size : ℕ) where
   unfolding searched
   searched_append codes more =
       rw (judgements_append 0 codes more, zero-add)
-      (foldl-append further (Refused 4) (judgements candidates host_size 0 codes) (judgements candidates host_size (length codes) more))
+      (foldl-append further (refuse 4) (judgements candidates host_size 0 codes) (judgements candidates host_size (length codes) more))
 
   module _ (codes : List ℕ) (i : ℕ) (inside : i < length codes) where
     -- one candidate more
@@ -44,8 +46,8 @@ module _ (candidates : List ℕ) (host_size : ℕ) where
         rw (add-one, take-suc codes i 0 inside, searched_append (take i codes) (get_or codes i 0 ∷ []), size)
 
     -- the first acceptance is the answer
-    pub searched_accepted : (layout : Layout) → searched candidates host_size (take (i + 1) codes) ≡ Accepted layout
-        → searched candidates host_size codes ≡ Accepted layout
+    pub searched_accepted : (layout : Layout) → searched candidates host_size (take (i + 1) codes) ≡ Ok layout
+        → searched candidates host_size codes ≡ Ok layout
     searched_accepted layout e =
         let behind = drop (i + 1) codes in
         ap (searched candidates host_size) (sym (take-append-drop (i + 1) codes))

@@ -6,7 +6,7 @@ use mathlib.Core.{Path.{◌≡◌, refl, sym, ap, ap₂, ◌∙◌}, Bool.{Bool,
 use lib.ListN.{length, take, drop}
 use borrow.Rule.Slice.PartMut.{put_mid}
 use Rattle.fields.specs.Bytes.{overlay}
-use Rattle.answers.specs.{Answers.{is_accepted, answer_refusal, locked_after}, declared.Answer.{Answer, TheVariants.Accepted}}
+use Rattle.answers.specs.Answers.{is_accepted, locked_after, Answer, refusal_number}
 use Rattle.layout.specs.declared.Layout.{Layout}
 use Rattle.sector_map.specs.SectorMap.{first_sector}
 use Rattle.judgement.specs.Offsets.{extent_start}
@@ -17,6 +17,7 @@ use Rattle.xts.proofs.{RunLaws.run_fits, UnitLaws.{length_units, length_converte
 use Rattle.view.specs.Outcomes.{after}
 use Rattle.plaintext.specs.Plaintext.{plain_filled_by, plain_written_by, plain_read_answer, plain_write_answer, PlainReadPost, PlainWritePost}
 use Rattle.plaintext.specs.declared.KeyedView.{KeyedView}
+use Rattle.std.specs.Prelude.{Ok, ⊤}
 
 -- ---- between a buffer and a part of the image
 
@@ -48,8 +49,8 @@ module _ (key image buffer : List ℕ) (start : ℕ) (fits : start + length buff
 
 -- ---- by the answer
 
-module _ (answer : Answer) (layout : Layout) (key image : List ℕ) (first count : ℕ) (buffer : List ℕ) where
-  module _ (start : ℕ) (accepted : answer ≡ Accepted) (at : start ≡ extent_start layout first) (whole : length buffer ≡ count * 512) where
+module _ (answer : Answer ⊤) (layout : Layout) (key image : List ℕ) (first count : ℕ) (buffer : List ℕ) where
+  module _ (start : ℕ) (accepted : answer ≡ Ok tt) (at : start ≡ extent_start layout first) (whole : length buffer ≡ count * 512) where
     sectors : length buffer / 512 ≡ count
     sectors = omega (arith, whole)
 
@@ -78,23 +79,23 @@ module _ (answer : Answer) (layout : Layout) (key image : List ℕ) (first count
 
 -- ---- on a view with a key
 
-module _ (keyed : KeyedView) (image : List ℕ) (first count : ℕ) (buffer : List ℕ) (answer : Answer) where
+module _ (keyed : KeyedView) (image : List ℕ) (first count : ℕ) (buffer : List ℕ) (answer : Answer ⊤) where
   pub plain_read_post : (filled : List ℕ) → answer ≡ plain_read_answer keyed image first count buffer
       → filled ≡ plain_filled_by answer keyed.view.layout keyed.key image first count buffer
-      → PlainReadPost keyed image first count buffer (record { keyed = keyed; answer = answer }) filled
+      → PlainReadPost keyed image first count buffer (record { view = keyed; answer = answer }) filled
   plain_read_post filled judged fills =
       record {
         same = refl;
         answers = judged;
-        fills = fills ∙ ap (λ (a : Answer). plain_filled_by a keyed.view.layout keyed.key image first count buffer) judged;
+        fills = fills ∙ ap (λ (a : Answer ⊤). plain_filled_by a keyed.view.layout keyed.key image first count buffer) judged;
       }
 
   pub plain_write_post : (locked : Bool) (written : List ℕ) → answer ≡ plain_write_answer keyed image first count buffer
       → written ≡ plain_written_by answer keyed.view.layout keyed.key image first count buffer
-      → locked ≡ locked_after keyed.view.locked (answer_refusal answer)
+      → locked ≡ locked_after keyed.view.locked (refusal_number answer)
       → PlainWritePost keyed image first count buffer
       (record {
-        keyed = record { view = record { layout = keyed.view.layout; protection = keyed.view.protection; locked = locked }; key = keyed.key };
+        view = record { view = record { layout = keyed.view.layout; protection = keyed.view.protection; locked = locked }; key = keyed.key };
         answer = answer;
       })
       written
@@ -103,5 +104,5 @@ module _ (keyed : KeyedView) (image : List ℕ) (first count : ℕ) (buffer : Li
       record {
         back = rw (locks, judged);
         answers = judged;
-        writes = writes ∙ ap (λ (a : Answer). plain_written_by a keyed.view.layout keyed.key image first count buffer) judged;
+        writes = writes ∙ ap (λ (a : Answer ⊤). plain_written_by a keyed.view.layout keyed.key image first count buffer) judged;
       }

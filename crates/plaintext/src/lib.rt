@@ -11,10 +11,10 @@ ghost use Rattle.xts.specs.{Runs.in_units, Units.{enciphered, deciphered}};
 ghost use Rattle.plaintext.specs.Plaintext.{plain_filled_by, plain_written_by, PlainReadPost, PlainWritePost};
 
 use aes::Direction;
-use answers::{Answer, Placement};
+use answers::Refusal;
 use layout::Layout;
 use protection::Protection;
-use view::View;
+use view::{Outcome, View};
 
 // A view and the key of its volume, which it keeps: 32 bytes for the data, then 32 for the tweak. A
 // caller may make one up: nothing is assumed of it.
@@ -24,17 +24,16 @@ pub struct KeyedView {
     pub key: [u8; 64],
 }
 
-// The view with its key, handed back, and the answer.
-#[derive(Clone, Copy)]
-pub struct KeyedOutcome {
-    pub keyed: KeyedView,
-    pub answer: Answer,
-}
-
 impl KeyedView {
     // Fills the buffer with count sectors of the image, from user sector first on, each deciphered. A
     // refusal leaves the buffer as it was.
-    pub fn read(self, image: &[u8], first: u64, count: u64, buffer: &mut [u8]) -> KeyedOutcome
+    pub fn read(
+        self,
+        image: &[u8],
+        first: u64,
+        count: u64,
+        buffer: &mut [u8],
+    ) -> Outcome<KeyedView, ()>
         ensures { PlainReadPost self image.now first count buffer.old result buffer.new }
     {
         let view = self.view;
@@ -42,16 +41,19 @@ impl KeyedView {
         let protection = view.protection;
         let key = self.key;
         let answer = read_sectors(layout, protection, key, image, first, count, buffer);
-        KeyedOutcome {
-            keyed: self,
-            answer,
-        }
+        Outcome { view: self, answer }
     }
 
     // Enciphers the buffer's sectors into the image, from user sector first on. Refuses 17 where the lock
     // is closed, and 18, at the first protected sector, where the extent has one, which closes the lock. A
     // refusal leaves the image as it was.
-    pub fn write(self, image: &mut [u8], first: u64, count: u64, buffer: &[u8]) -> KeyedOutcome
+    pub fn write(
+        self,
+        image: &mut [u8],
+        first: u64,
+        count: u64,
+        buffer: &[u8],
+    ) -> Outcome<KeyedView, ()>
         ensures { PlainWritePost self image.old first count buffer.now result image.new }
     {
         let view = self.view;
@@ -68,9 +70,9 @@ impl KeyedView {
             count,
             buffer,
         );
-        let locked = answers::locked_after(view.locked, answers::refusal(answer));
-        KeyedOutcome {
-            keyed: KeyedView {
+        let locked = answers::locked_after(view.locked, answers::refusal_number(&answer));
+        Outcome {
+            view: KeyedView {
                 view: View {
                     layout,
                     protection,
@@ -83,7 +85,7 @@ impl KeyedView {
     }
 }
 
-// A read over a layout and what is protected.
+// A read over a layout and what is protected. No twin of `access::read`: what both need is behind the `?`.
 fn read_sectors(
     layout: Layout,
     protection: Protection,
@@ -92,27 +94,21 @@ fn read_sectors(
     first: u64,
     count: u64,
     buffer: &mut [u8],
-) -> Answer
+) -> Result<(), Refusal>
     ensures value { result ≡ read_answer layout protection (length image.now) first count (length buffer.old) }
     ensures buffer_after { buffer.new ≡ plain_filled_by result layout key image.now first count buffer.old }
 {
     let image_size = image.len() as u64;
-    let placement = judgement::read_extent(
+    let start = judgement::read_extent(
         layout,
         protection,
         image_size,
         first,
         count,
         buffer.len() as u64,
-    );
-    match placement {
-        Placement::Offset(start) => {
-            decipher_from(key, image, start, buffer);
-            Answer::Accepted
-        }
-        Placement::Refused(number) => Answer::Refused(number),
-        Placement::RefusedAt(number, sector) => Answer::RefusedAt(number, sector),
-    }
+    )?;
+    decipher_from(key, image, start, buffer);
+    Ok(())
 }
 
 // A write over a layout, what is protected and the lock.
@@ -125,13 +121,13 @@ fn write_sectors(
     first: u64,
     count: u64,
     buffer: &[u8],
-) -> Answer
+) -> Result<(), Refusal>
     ensures value { result ≡ write_answer layout protection locked (length image.old) first count (length buffer.now) }
     ensures image_after { image.new ≡ plain_written_by result layout key image.old first count buffer.now }
 {
     let image_size = image.len() as u64;
     let buffer_size = buffer.len() as u64;
-    let placement = judgement::write_extent(
+    let start = judgement::write_extent(
         layout,
         protection,
         locked,
@@ -139,15 +135,9 @@ fn write_sectors(
         first,
         count,
         buffer_size,
-    );
-    match placement {
-        Placement::Offset(start) => {
-            encipher_into(key, image, start, buffer);
-            Answer::Accepted
-        }
-        Placement::Refused(number) => Answer::Refused(number),
-        Placement::RefusedAt(number, sector) => Answer::RefusedAt(number, sector),
-    }
+    )?;
+    encipher_into(key, image, start, buffer);
+    Ok(())
 }
 
 // The image's sectors from an offset on, as many as the buffer has room for, deciphered.

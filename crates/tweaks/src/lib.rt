@@ -6,18 +6,20 @@
 ghost use Rattle.std.specs.Prelude.{◌≡◌};
 ghost use Rattle.tweaks.specs.Tweaks.{tweak_number, tweak_of};
 
-use answers::Numbered;
+use answers::Refusal;
 use layout::Layout;
 
-// A tweak's number, or the refusal, and its block: sixteen zeros where it is refused.
+// A tweak's number, or the refusal, and its block beside it: sixteen zeros where it is refused, as the claim
+// `no_block` in header_claims/specs/SectorMap.antt says.
 #[derive(Clone, Copy)]
 pub struct Tweak {
-    pub number: Numbered,
+    pub number: Result<u64, Refusal>,
     pub block: [u8; 16],
 }
 
 // The tweak number of a user sector.
-pub fn tweak_number(layout: Layout, user: u64) -> Numbered
+#[tactic(auto, unfolding(crate::specs::Tweaks::tweak_number))]
+pub fn tweak_number(layout: Layout, user: u64) -> Result<u64, Refusal>
     ensures { result ≡ tweak_number layout user }
 {
     sector_map::host_sector(layout, user)
@@ -29,11 +31,8 @@ pub fn tweak_block(layout: Layout, user: u64) -> Tweak
 {
     let mut block = [0u8; 16];
     let number = tweak_number(layout, user);
-    match number {
-        Numbered::Number(value) => {
-            number_writing::write_little_endian(value, &mut block);
-            Tweak { number, block }
-        }
-        Numbered::Refused(_) => Tweak { number, block },
+    if let Ok(value) = number {
+        number_writing::write_little_endian(value, &mut block);
     }
+    Tweak { number, block }
 }

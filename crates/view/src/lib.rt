@@ -5,7 +5,7 @@
 ghost use Rattle.std.specs.Prelude.{◌≡◌};
 ghost use Rattle.view.specs.Outcomes.{read_placed, write_placed, ReadPost, WritePost};
 
-use answers::{Answer, Placement};
+use answers::Refusal;
 use layout::Layout;
 use protection::Protection;
 
@@ -18,24 +18,17 @@ pub struct View {
     pub locked: bool,
 }
 
-// The view handed back, and the answer.
+// The view handed back, whatever kind of view it is, and the answer.
 #[derive(Clone, Copy)]
-pub struct Outcome {
-    pub view: View,
-    pub answer: Answer,
-}
-
-// The view handed back, and where a call finds its bytes, or its refusal.
-#[derive(Clone, Copy)]
-pub struct Placed {
-    pub view: View,
-    pub placement: Placement,
+pub struct Outcome<V, T> {
+    pub view: V,
+    pub answer: Result<T, Refusal>,
 }
 
 impl View {
     // Copies count sectors, from user sector first on, out of the image and fills the buffer with
     // them. The lock and the protected range are not looked at. A refusal leaves the buffer as it was.
-    pub fn read(self, image: &[u8], first: u64, count: u64, buffer: &mut [u8]) -> Outcome
+    pub fn read(self, image: &[u8], first: u64, count: u64, buffer: &mut [u8]) -> Outcome<View, ()>
         ensures { ReadPost self image.now first count buffer.old result buffer.new }
     {
         let layout = self.layout;
@@ -47,13 +40,13 @@ impl View {
     // Copies the buffer into the image's sectors, from user sector first on. Refuses 17 where the
     // lock is closed, and 18, at the first protected sector, where the extent has one, which closes the
     // lock. A refusal leaves the image as it was.
-    pub fn write(self, image: &mut [u8], first: u64, count: u64, buffer: &[u8]) -> Outcome
+    pub fn write(self, image: &mut [u8], first: u64, count: u64, buffer: &[u8]) -> Outcome<View, ()>
         ensures { WritePost self image.old first count buffer.now result image.new }
     {
         let layout = self.layout;
         let protection = self.protection;
         let answer = access::write(layout, protection, self.locked, image, first, count, buffer);
-        let locked = answers::locked_after(self.locked, answers::refusal(answer));
+        let locked = answers::locked_after(self.locked, answers::refusal_number(&answer));
         Outcome {
             view: View {
                 layout,
@@ -66,12 +59,18 @@ impl View {
 
     // Where in the host a read of such sizes finds its bytes: the extent's first byte, or the read's
     // refusal.
-    pub fn read_extent(self, image_size: u64, first: u64, count: u64, buffer_size: u64) -> Placed
+    pub fn read_extent(
+        self,
+        image_size: u64,
+        first: u64,
+        count: u64,
+        buffer_size: u64,
+    ) -> Outcome<View, u64>
         ensures { result ≡ read_placed self image_size first count buffer_size }
     {
         let layout = self.layout;
         let protection = self.protection;
-        let placement = judgement::read_extent(
+        let answer = judgement::read_extent(
             layout,
             protection,
             image_size,
@@ -79,19 +78,22 @@ impl View {
             count,
             buffer_size,
         );
-        Placed {
-            view: self,
-            placement,
-        }
+        Outcome { view: self, answer }
     }
 
     // Where in the host a write of such sizes finds its bytes, or the write's refusal. 18 closes the lock.
-    pub fn write_extent(self, image_size: u64, first: u64, count: u64, buffer_size: u64) -> Placed
+    pub fn write_extent(
+        self,
+        image_size: u64,
+        first: u64,
+        count: u64,
+        buffer_size: u64,
+    ) -> Outcome<View, u64>
         ensures { result ≡ write_placed self image_size first count buffer_size }
     {
         let layout = self.layout;
         let protection = self.protection;
-        let placement = judgement::write_extent(
+        let answer = judgement::write_extent(
             layout,
             protection,
             self.locked,
@@ -100,14 +102,14 @@ impl View {
             count,
             buffer_size,
         );
-        let locked = answers::locked_after(self.locked, answers::placement_refusal(placement));
-        Placed {
+        let locked = answers::locked_after(self.locked, answers::refusal_number(&answer));
+        Outcome {
             view: View {
                 layout,
                 protection,
                 locked,
             },
-            placement,
+            answer,
         }
     }
 }

@@ -8,7 +8,7 @@ use Rattle.layout.specs.Rules.{multiple, host_size_rule, sector_size_rule, place
 use Rattle.sector_map.specs.SectorMap.{sectors, first_sector, host_sector, user_sector}
 use Rattle.tweaks.specs.Tweaks.{tweak_number, block_of, tweak_of}
 use Rattle.judgement.specs.Judging.{alignment_rule, blocked_by, end_answer, checked, lock_answer, read_answer, write_answer}
-use Rattle.answers.specs.Answers.{answer_refusal, answer_sector, locked_after}
+use Rattle.answers.specs.Answers.{answer_sector, locked_after, refusal_number}
 use Rattle.extent.specs.Extents.{has, larger, overlap, beyond}
 use Rattle.protection.specs.Protection.{area_end, protection_rule, sound_protection, protected_extent}
 use Rattle.pairing.specs.Pairs.{nests, paired}
@@ -35,7 +35,7 @@ access_rows : Right access_cases
 unfolding access_cases volume volume_m volume_n large_m on_view writing_from writing reading leaving plain_view protected_view plain_of protected_of
     sound host_size_rule sector_size_rule data_area_rule sectors_rule multiple place_rule nests area_end protection_rule sound_protection protected_extent paired
     made_by sectors blocked_by end_answer alignment_rule checked lock_answer read_answer write_answer locked_after after
-    answer_refusal answer_sector sector_told has larger overlap beyond
+    refusal_number answer_sector sector_told has larger overlap beyond
 access_rows = refl
 
 table : Right cases

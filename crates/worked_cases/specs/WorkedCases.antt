@@ -1,21 +1,16 @@
 -- The worked cases (RULES.md, Worked cases): the starred ones in one table, and the map program's output, over the definitions that the
 -- contracts cite. Those of opening and of the cipher are in crates of their own. Assumes nothing.
-use Rattle.std.specs.Prelude.{ℕ, ◌-◌, ◌*◌, ◌^◌}
+use Rattle.std.specs.Prelude.{ℕ, ◌-◌, ◌*◌, ◌^◌, replicate, Ok, Err, Some, None, Option, ⊤}
 use mathlib.Core.{Path.◌≡◌, List.{List, [], ◌∷◌, ◌++◌}}
-use Rattle.std.specs.Prelude.{replicate}
 use Rattle.bits.specs.Cases.{Rows, Right}
-use Rattle.answers.specs.Answers.{answer_refusal, Naming, unnamed, named, answer_sector}
-use Rattle.answers.specs.declared.{Answer.Answer, Numbered.Numbered}
+use Rattle.answers.specs.Answers.{answer_sector, Answer, refusal_number}
 use Rattle.layout.specs.declared.Layout.{Layout}
 use Rattle.sector_map.specs.SectorMap.{host_sector, user_sector}
 use Rattle.tweaks.specs.Tweaks.{tweak_of}
-use Rattle.answers.specs.declared.Numbered.TheVariants as mapped
 use Rattle.tweaks.specs.declared.Tweak.{Tweak}
 use Rattle.view.specs.Outcomes.{view_read, view_write, after}
 use Rattle.making.specs.Views.{plain_view, protected_view}
 use Rattle.view.specs.declared.View.{View}
-use Rattle.making.specs.declared.Viewed.{Viewed}
-use Rattle.making.specs.declared.Viewed.TheVariants as viewed
 use Rattle.map_output.specs.MapOutput.{layout_lines}
 use Rattle.header_claims.specs.MapProgram.{letters}
 use Rattle.worked_headers.specs.Openings.{opening_cases}
@@ -48,33 +43,33 @@ unfoldable pub large_m : Layout
 large_m = volume 0 131072 786432 0 4096
 
 -- what a case tells of the map: the refusal number, or 0 and the sector or tweak number
-unfoldable pub mapped_told : Numbered → List ℕ
-mapped_told (mapped.Number number) = 0 ∷ number ∷ []
-mapped_told (mapped.Refused number) = number ∷ []
+unfoldable pub mapped_told : Answer ℕ → List ℕ
+mapped_told (Ok number) = 0 ∷ number ∷ []
+mapped_told (Err refusal) = refusal.number ∷ []
 
 -- .. and of a tweak, its block behind that
 unfoldable pub tweak_told : Tweak → List ℕ
 tweak_told tweak = mapped_told tweak.number ++ tweak.block
 
 -- what a case tells of a sector in the way: nothing, or the sector
-unfoldable pub sector_told : Naming → List ℕ
-sector_told unnamed = []
-sector_told (named sector) = sector ∷ []
+unfoldable pub sector_told : Option ℕ → List ℕ
+sector_told None = []
+sector_told (Some sector) = sector ∷ []
 
 -- .. and of a call on a view that was made: the refusal number, 0 for accepted, and the sector in the way
-unfoldable pub on_view : Viewed → (View → Answer) → List ℕ
-on_view (viewed.Made view) answer = answer_refusal (answer view) ∷ sector_told (answer_sector (answer view))
-on_view (viewed.Refused number) answer = []
+unfoldable pub on_view : Answer View → (View → Answer ⊤) → List ℕ
+on_view (Ok view) answer = refusal_number (answer view) ∷ sector_told (answer_sector (answer view))
+on_view (Err refusal) answer = []
 
 -- the answer to a write on an image of M's size with a buffer of some size
-unfoldable pub writing_from : ℕ → ℕ → ℕ → View → Answer
+unfoldable pub writing_from : ℕ → ℕ → ℕ → View → Answer ⊤
 writing_from buffer_size first count view = view_write view 1048576 first count buffer_size
 
 -- .. to a write, and to a read, on an image of M's size with a buffer of the extent's
-unfoldable pub writing : ℕ → ℕ → View → Answer
+unfoldable pub writing : ℕ → ℕ → View → Answer ⊤
 writing first count view = writing_from (count * 512) first count view
 
-unfoldable pub reading : ℕ → ℕ → View → Answer
+unfoldable pub reading : ℕ → ℕ → View → Answer ⊤
 reading first count view = view_read view 1048576 first count (count * 512)
 
 -- the view that a write leaves

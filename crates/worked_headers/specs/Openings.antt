@@ -1,11 +1,12 @@
 -- Worked cases of opening (RULES.md, Worked cases), over the definitions that the contracts cite. Assumes nothing.
-use Rattle.std.specs.Prelude.{ℕ, ◌-◌, ◌/◌, ◌^◌, List, [], ◌∷◌, ◌++◌, replicate}
+use Rattle.std.specs.Prelude.{ℕ, ◌-◌, ◌/◌, ◌^◌, List, [], ◌∷◌, ◌++◌, replicate, Ok, Err}
 use Rattle.bits.specs.Cases.{Rows}
 use Rattle.numbers.specs.Numbers.{big_endian_bytes}
 use Rattle.crc32.specs.Crc32.{crc32}
-use Rattle.layout.specs.declared.{Opened.{Opened, TheVariants.{Accepted, Refused}}}
 use Rattle.header_format.specs.Format.{true_magic}
 use Rattle.opening.specs.Opening.{opened}
+use Rattle.answers.specs.Answers.{Answer}
+use Rattle.layout.specs.declared.Layout.{Layout}
 
 -- what a header of a case tells: H, O, V, which is also E, and Z
 pub record Told : Type 0 where
@@ -35,9 +36,9 @@ header_with told =
     replicate 64 0 ++ fields ++ big_endian_bytes 4 (crc32 fields) ++ replicate 256 0
 
 -- what a case tells of opening: the refusal number, or 0 and the count of sectors
-unfoldable pub told_of : Opened → List ℕ
-told_of (Accepted layout) = 0 ∷ layout.data_size / 512 ∷ []
-told_of (Refused number) = number ∷ []
+unfoldable pub told_of : Answer Layout → List ℕ
+told_of (Ok layout) = 0 ∷ layout.data_size / 512 ∷ []
+told_of (Err refusal) = refusal.number ∷ []
 
 -- opening at a code with one header, for S
 unfoldable pub opens : ℕ → ℕ → List ℕ → List ℕ

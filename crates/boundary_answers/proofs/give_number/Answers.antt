@@ -1,13 +1,15 @@
--- `boundary_answers::give_number` meets its contract, by the cases of the answer.
-use mathlib.Core.Path.{refl}
-use Rattle.answers.specs.Answers.{numbered_refusal}
+-- `boundary_answers::give_number` meets its contract: what is given is the answer as an array of one number.
+use mathlib.Core.{Path.{refl, ◌∙◌}, List.{[], ◌∷◌}}
 use Rattle.boundary_answers.specs.BoundaryAnswers.{numbered_left}
+use Rattle.boundary_numbers.proofs.MappedLaws.{mapped_refusal, mapped_given}
 use Rattle.boundary_answers.proofs.give_number.Goals as goal
 
-pub returns-in-Number : goal.returns-in-Number
-unfolding numbered_refusal numbered_left
-returns-in-Number c = rw c.in-Number.is (record { value = refl; place_after = refl })
-
-pub returns-in-Refused : goal.returns-in-Refused
-unfolding numbered_refusal numbered_left
-returns-in-Refused c = rw c.in-Refused.is (record { value = refl; place_after = refl })
+pub returns : goal.returns
+unfolding numbered_left
+returns c =
+    let mapped = c.map.ensures.cases in
+    record {
+      value = c.give.ensures.value ∙ mapped_refusal (λ number. number ∷ []) c.args.answer c.map.result mapped;
+      place_after = c.give.ensures.place_after
+          ∙ mapped_given (λ number. number ∷ []) numbered_left c.args.place.now (λ number. refl) (λ refusal. refl) c.args.answer c.map.result mapped;
+    }

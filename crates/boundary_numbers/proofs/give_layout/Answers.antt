@@ -1,16 +1,15 @@
--- `boundary_numbers::give_layout` meets its contract, by the cases of the answer.
+-- `boundary_numbers::give_layout` meets its contract: what is given is the answer in numbers.
 use mathlib.Core.Path.{refl, ◌∙◌}
-use Rattle.layout.specs.Opened.{opened_refusal}
-use Rattle.boundary_numbers.specs.BoundaryNumbers.{opened_left}
-use Rattle.boundary_numbers.proofs.StoreLaws.{layout_stored}
-use borrow.Author.Rules.{rules}
+use Rattle.boundary_numbers.specs.BoundaryNumbers.{layout_numbers, opened_left}
+use Rattle.boundary_numbers.proofs.MappedLaws.{mapped_refusal, mapped_given}
 use Rattle.boundary_numbers.proofs.give_layout.Goals as goal
 
-pub returns-in-Accepted : goal.returns-in-Accepted
-unfolding opened_refusal opened_left
-returns-in-Accepted c =
-    rw c.in-Accepted.is (record { value = refl; numbers_after = c.store_layout.ensures ∙ layout_stored _ c.args.numbers.now (search rules) })
-
-pub returns-in-Refused : goal.returns-in-Refused
-unfolding opened_refusal opened_left
-returns-in-Refused c = rw c.in-Refused.is (record { value = refl; numbers_after = refl })
+pub returns : goal.returns
+unfolding opened_left
+returns c =
+    let mapped = c.map.ensures.cases in
+    record {
+      value = c.give.ensures.value ∙ mapped_refusal layout_numbers c.args.answer c.map.result mapped;
+      numbers_after = c.give.ensures.place_after
+          ∙ mapped_given layout_numbers opened_left c.args.numbers.now (λ value. refl) (λ refusal. refl) c.args.answer c.map.result mapped;
+    }

@@ -1,13 +1,15 @@
--- `boundary_numbers::give_view` meets its contract, by the cases of the answer.
-use mathlib.Core.Path.{refl}
-use Rattle.making.specs.Views.{viewed_refusal}
-use Rattle.boundary_numbers.specs.BoundaryNumbers.{viewed_left}
+-- `boundary_numbers::give_view` meets its contract: what is given is the answer in numbers.
+use mathlib.Core.Path.{refl, ◌∙◌}
+use Rattle.boundary_numbers.specs.BoundaryNumbers.{view_numbers, viewed_left}
+use Rattle.boundary_numbers.proofs.MappedLaws.{mapped_refusal, mapped_given}
 use Rattle.boundary_numbers.proofs.give_view.Goals as goal
 
-pub returns-in-Made : goal.returns-in-Made
-unfolding viewed_refusal viewed_left
-returns-in-Made c = rw c.in-Made.is (record { value = refl; numbers_after = c.store_view.ensures })
-
-pub returns-in-Refused : goal.returns-in-Refused
-unfolding viewed_refusal viewed_left
-returns-in-Refused c = rw c.in-Refused.is (record { value = refl; numbers_after = refl })
+pub returns : goal.returns
+unfolding viewed_left
+returns c =
+    let mapped = c.map.ensures.cases in
+    record {
+      value = c.give.ensures.value ∙ mapped_refusal view_numbers c.args.answer c.map.result mapped;
+      numbers_after = c.give.ensures.place_after
+          ∙ mapped_given view_numbers viewed_left c.args.numbers.now (λ value. refl) (λ refusal. refl) c.args.answer c.map.result mapped;
+    }

@@ -1,13 +1,9 @@
 -- `map_input::open_input` meets its contract: the parts that it passes on are the definition's, and eight bytes are read whole.
 use native.Mathlib.Omega.{arith}
 use lib.ListN.{length-take}
-use borrow.Author.Tests.{eq-eqb, ne_eqb}
+use borrow.Author.Tests.{eq-eqb}
 use Rattle.map_input.specs.MapInput.{opened_input}
 use Rattle.map_input.proofs.open_input.Goals as goal
-
-pub returns-then-input-ne-SIZE : goal.returns-then-input-ne-SIZE
-unfolding opened_input
-returns-then-input-ne-SIZE c = simp (ne_eqb _ _ c.if-input-ne-SIZE.true)
 
 pub returns : goal.returns
 unfolding opened_input

@@ -2,24 +2,24 @@
 use Prim.Native.Nat.{ℕ, ◌^◌, ◌<◌}
 use mathlib.Core.{List.List, Path.{ap, sym, ◌∙◌}}
 use native.Mathlib.Omega.{arith}
-use Rattle.answers.specs.declared.Numbered.{Numbered, TheVariants.Number}
+use Rattle.std.specs.Prelude.{Ok}
+use Rattle.answers.specs.Answers.{Answer}
 use Rattle.tweaks.specs.{declared.Tweak.Tweak, Tweaks.{tweak_of, block_of}}
 use Rattle.numbers.proofs.WrittenLaws.{little_endian_bytes_pad}
 use Rattle.tweaks.proofs.tweak_block.Goals as goal
 
 -- a tweak, from its parts
-abbrev tweak : Numbered → List ℕ → Tweak
+abbrev tweak : Answer ℕ → List ℕ → Tweak
 tweak number block = record { number = number; block = block }
 
-pub returns-in-Number : goal.returns-in-Number
+pub returns-in-Ok : goal.returns-in-Ok
 unfolding tweak_of block_of
-returns-in-Number c =
-    let value = c.in-Number.value in
+returns-in-Ok c =
+    let value = c.in-Ok.value in
     let small : value < 256 ^ 8 = omega arith in
-    rw (sym c.tweak_number-number.ensures ∙ c.in-Number.is)
-    (ap (tweak (Number value)) (c.write_little_endian.ensures ∙ little_endian_bytes_pad 8 8 value small))
+    rw (sym c.tweak_number-number.ensures ∙ c.in-Ok.is)
+    (ap (tweak (Ok value)) (c.write_little_endian.ensures ∙ little_endian_bytes_pad 8 8 value small))
 
-pub returns-in-Refused : goal.returns-in-Refused
+pub returns-in_default : goal.returns-in_default
 unfolding tweak_of block_of
-returns-in-Refused c =
-    rw (← c.tweak_number-number.ensures, c.in-Refused.is)
+returns-in_default c = rw (← c.tweak_number-number.ensures, c.in_default.is)

@@ -5,4 +5,4 @@ use Rattle.view.proofs.View.read_extent.Goals as goal
 
 pub returns : goal.returns
 unfolding read_placed
-returns c = rw c.read_extent-placement.ensures refl
+returns c = rw c.read_extent-answer.ensures refl
