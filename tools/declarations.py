@@ -25,18 +25,18 @@ HEADER = 'include/ondristela.h'
 RUST = 'rust/src/raw.rs'
 FILES = [RATTLE, NUMBERS, KEYS, LAYOUT, HEADER, RUST]
 
-# The function that stores the numbers of a struct.
+# The function that gives the numbers of a struct, or stores them.
 WRITERS = {
-    'ondristela_layout': (NUMBERS, 'store_layout'),
-    'ondristela_view': (NUMBERS, 'store_view'),
+    'ondristela_layout': (NUMBERS, 'layout_numbers'),
+    'ondristela_view': (NUMBERS, 'view_numbers'),
     'ondristela_range': (KEYS, 'give_keys'),
 }
 
 # The numbers that have another name in a struct than where they are stored.
 RENAMED = {
-    'range[0]': 'protected_range',
-    'range[1]': 'protected_first',
-    'range[2]': 'protected_end',
+    'protected': 'protected_range',
+    'first': 'protected_first',
+    'end': 'protected_end',
     'KEYS_SIZE': 'size',
 }
 
@@ -136,19 +136,21 @@ def body(path, text, function):
 
 
 def stored_name(expression):
-    name = re.split(r'\.|::', expression.removesuffix(' as u64'))[-1]
+    bare = re.sub(r'^u64::from\((.*)\)$', r'\1', expression).removesuffix(' as u64')
+    name = re.split(r'\.|::', bare)[-1]
     return RENAMED.get(name, name)
 
 
 def indexed(path, text, function):
-    """What a function stores, by index: in one array, or number by number and by store_layout."""
+    """What a function gives or stores, by index: as one array, or part by part from another function or an array."""
     where, code = body(path, text, function)
-    array = re.search(r'^ +\*\w+ = \[(.*)\];$', code, re.M)
-    found = dict(enumerate(items(array[1]))) if array else {}
-    if re.search(r'^ +store_layout\(', code, re.M):
-        found |= indexed(path, text, 'store_layout')[1]
-    for index, expression in re.findall(r'^ +numbers\[(\w+)\] = ([^;]+);$', code, re.M):
-        found[int(value(index, text)) if value(index, text).isdigit() else index] = expression
+    array = re.search(r'^ +\*\w+ = \[(.*)\];$|^    \[$(.*?)^    \]$', code, re.M | re.S)
+    found = dict(enumerate(items(array[1] or array[2]))) if array else {}
+    for start, other, part in re.findall(r'^ +numbers\[(\w*)\.\.\w*\]\.copy_from_slice\(&(?:(\w+)\([^)]*\)|\[(.*)\])\);$', code, re.M):
+        first = value(start or '0', text)
+        given = indexed(path, text, other)[1] if other else dict(enumerate(items(part)))
+        if first.isdigit():
+            found |= {int(first) + index: expression for index, expression in given.items()}
     return where, found
 
 
@@ -319,10 +321,10 @@ def struct_problems(header, numbers, opening, layout):
         source = stored(texts, name)
         if struct.numbers != source.numbers:
             yield (f'{struct.place}: struct {name} has {", ".join(struct.numbers)}, '
-                   f'but {WRITERS[name][1]} at {source.place} stores {", ".join(source.numbers) or "no list"}')
+                   f'but {WRITERS[name][1]} at {source.place} gives {", ".join(source.numbers) or "no list"}')
     fields, source = layout_fields(layout), stored(texts, 'ondristela_layout')
     if sorted(fields.numbers) != sorted(source.numbers):
-        yield f'{source.place}: store_layout does not store each field of Layout, at {fields.place}, once'
+        yield f'{source.place}: layout_numbers does not give each field of Layout, at {fields.place}, once'
 
 
 # The checks of a file are kept, since tests/declarations.py asks again and again with one other file changed.

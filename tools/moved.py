@@ -119,7 +119,7 @@ def contracts(text):
     """The functions of a source file, methods with their type before them."""
     head = r'(?:#\[[^\n]*\]\n *)*(?:(?:pub|const|unsafe|extern "C") )*fn (?P<name>\w+)'
     function = rf'^(?P<indent> *)(?P<contract>{head}.*?)(?: \{{|\n(?P=indent)\{{\}}?)$'
-    owner = r'^(?:impl(?:<[^>]*>)?|(?:pub )?trait) (?P<owner>\w+)'
+    owner = r'^(?:impl(?:<[^>]*>)?(?: [^{\n]* for)?|(?:pub )?trait) (?P<owner>\w+)'
     found, before = {}, ''
     for match in re.finditer(f'{owner}|{function}', uncommented(text, '//'), re.M | re.S):
         if match['owner']:
