@@ -28,12 +28,18 @@ tells_numbers =
     record {
       opened_accepted = λ layout. refl;
       opened_refused = λ refusal. refl;
+      opened_by = λ number. refl;
       numbered_accepted = λ number. refl;
       numbered_refused = λ refusal. refl;
+      numbered_by = λ number. refl;
+      numbered_at = λ number sector. refl;
       made_accepted = λ view. refl;
       made_refused = λ refusal. refl;
+      made_by = λ number. refl;
       done = refl;
       refused = λ refusal. refl;
+      refused_by = λ number. refl;
+      refused_at = λ number sector. refl;
     }
 
 pub returns_zero : ReturnsZero

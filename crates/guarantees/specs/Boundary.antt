@@ -21,16 +21,23 @@ use Rattle.header_claims.specs.Writing.{Request, answer_to}
 use Rattle.answers.specs.{Answers.{refuse, refuse_at, refusal_number}, declared.Refusal.Refusal}
 use Rattle.protection.specs.Protection.{Protection}
 
--- every refusal is told by its own number, and every acceptance by 0, whatever was asked for
+-- every refusal is told by its own number, and every acceptance by 0, whatever was asked for; the number of `refuse` and of `refuse_at`,
+-- by which the other claims name refusals, is the one that is given there
 pub record TellsNumbers : Type 0 where
   pub opened_accepted : (layout : Layout) → refusal_number (Ok layout) ≡ 0
   pub opened_refused : (refusal : Refusal) → refusal_number {T = Layout} (Err refusal) ≡ refusal.number
+  pub opened_by : (number : ℕ) → refusal_number {T = Layout} (refuse number) ≡ number
   pub numbered_accepted : (number : ℕ) → refusal_number (Ok number) ≡ 0
   pub numbered_refused : (refusal : Refusal) → refusal_number {T = ℕ} (Err refusal) ≡ refusal.number
+  pub numbered_by : (number : ℕ) → refusal_number {T = ℕ} (refuse number) ≡ number
+  pub numbered_at : (number sector : ℕ) → refusal_number {T = ℕ} (refuse_at number sector) ≡ number
   pub made_accepted : (view : View) → refusal_number (Ok view) ≡ 0
   pub made_refused : (refusal : Refusal) → refusal_number {T = View} (Err refusal) ≡ refusal.number
+  pub made_by : (number : ℕ) → refusal_number {T = View} (refuse number) ≡ number
   pub done : refusal_number {T = ⊤} (Ok tt) ≡ 0
   pub refused : (refusal : Refusal) → refusal_number {T = ⊤} (Err refusal) ≡ refusal.number
+  pub refused_by : (number : ℕ) → refusal_number {T = ⊤} (refuse number) ≡ number
+  pub refused_at : (number sector : ℕ) → refusal_number {T = ⊤} (refuse_at number sector) ≡ number
 
 -- an answer's number is 0 exactly where the answer is an acceptance
 pub record ZeroAccepts {A R : Type 0} (number : R → ℕ) (accepted : A → R) (answer : R) : Type 0 where
