@@ -24,8 +24,9 @@ pub fn write_little_endian(number: u64, bytes: &mut [u8])
     ensures { bytes.new ≡ little_endian_bytes (length bytes.old) number }
 {
     let mut rest = number;
-    for byte in bytes.iter_mut() {
-        *byte = (rest % 256) as u8;
+    // By an index here too: that the loop begins at 1 is what the must-fail edit first_byte_kept gets wrong.
+    for at in 0..bytes.len() {
+        bytes[at] = (rest % 256) as u8;
         rest /= 256;
     }
 }

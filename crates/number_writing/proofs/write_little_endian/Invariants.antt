@@ -5,7 +5,7 @@ use lib.ListN.{length, take}
 use Rattle.numbers.specs.Numbers.{little_endian_bytes}
 use Rattle.number_writing.proofs.write_little_endian.Given as goal
 
-abbrev pub invariant-loop-byte : goal.invariant-loop-byte
-invariant-loop-byte l =
+abbrev pub invariant-loop-at : goal.invariant-loop-at
+invariant-loop-at l =
     let n = length l.initial.bytes in
-    little_endian_bytes n l.number ≡ take l.byte-index l.bytes ++ little_endian_bytes (n - l.byte-index) l.rest
+    little_endian_bytes n l.number ≡ take l.at l.bytes ++ little_endian_bytes (n - l.at) l.rest
