@@ -8,37 +8,35 @@ use crate::print::{Answer, Checksum, Numbers};
 use crate::requests::Access;
 use crate::streams::Streams;
 use crate::views::View;
-use std::alloc::{AllocError, Global};
 use std::io;
-
-// 130 sectors: more than a call may move.
-const BUFFER_SPACE: usize = 66_560;
 
 // What a call is asked for and lent, but for the image and the view.
 #[derive(Drop)]
-struct Call {
+struct Call<'a> {
     first: u64,
     count: u64,
-    buffer: Vec<u8>,
+    buffer: &'a mut [u8],
     sector: [u64; 1],
     keys: [u8; 64],
 }
 
-impl Call {
-    fn new(alloc: Global, mut body: Body) -> Result<Self, AllocError> {
+impl<'a> Call<'a> {
+    // Its buffer is so much of the space as the record says.
+    fn new(space: &'a mut [u8], mut body: Body) -> Self {
         let first = body.number();
         let count = body.number();
-        let size = within(body.number(), BUFFER_SPACE);
-        let buffer = image::filled(alloc, size, body.number())?;
+        let size = within(body.number(), space.len());
+        let buffer = &mut space[..size];
+        image::fill(buffer, body.number());
         let sector = [body.number()];
         let keys = body.bytes();
-        Ok(Call {
+        Call {
             first,
             count,
             buffer,
             sector,
             keys,
-        })
+        }
     }
 
     // Makes the call, and gives its refusal.
@@ -46,7 +44,7 @@ impl Call {
         let first = self.first;
         let count = self.count;
         let keys = &self.keys;
-        let buffer = self.buffer.as_mut_slice();
+        let buffer = &mut *self.buffer;
         let sector = &mut self.sector;
         match access {
             Access::Read => {
@@ -68,16 +66,17 @@ impl Call {
 pub fn run(
     streams: &mut Streams,
     image: &mut [u8],
+    space: &mut [u8],
     view: &mut View,
     access: Access,
     mut body: Body,
 ) -> io::Result<()> {
     let image_size = within(body.number(), image.len());
-    let mut call = Call::new(streams.alloc, body)?;
+    let mut call = Call::new(space, body);
     let refusal = call.make(access, &mut image[..image_size], view);
     streams.print(Answer(refusal))?;
     streams.print(call.sector[0])?;
-    streams.print(Checksum(&call.buffer))?;
+    streams.print(Checksum(call.buffer))?;
     streams.print(Checksum(image))?;
     streams.print(Numbers(view))
 }

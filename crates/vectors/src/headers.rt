@@ -12,14 +12,16 @@ const OUTPUT_SPACE: usize = 513;
 
 pub fn run(streams: &mut Streams, mut body: Body) -> io::Result<()> {
     let header = Header::read(&mut body);
+    let mut space = [0u8; OUTPUT_SPACE];
     let output_size = within(body.number(), OUTPUT_SPACE);
-    let mut output = image::filled(streams.alloc, output_size, body.number())?;
+    let output = &mut space[..output_size];
+    image::fill(output, body.number());
     let salt_size = body.number();
     let (salt, keys) = body.split(salt_size);
-    let refusal = header.write(salt, keys, &mut output);
+    let refusal = header.write(salt, keys, output);
     streams.print(Answer(refusal))?;
-    streams.print(Checksum(&output))?;
-    openings::open(streams, &output, &[header.code], header.host_size)
+    streams.print(Checksum(output))?;
+    openings::open(streams, output, &[header.code], header.host_size)
 }
 
 // What a header is to tell.

@@ -1,15 +1,12 @@
 // What the image and the buffers are filled with.
-use std::alloc::{AllocError, Global};
 
 // Bytes that differ from sector to sector and from seed to seed.
-pub fn filled(alloc: Global, size: usize, seed: u64) -> Result<Vec<u8>, AllocError> {
-    let mut bytes = vec![in alloc; 0u8; size]?;
+pub fn fill(bytes: &mut [u8], seed: u64) {
     let mut state = seed;
     for byte in bytes.iter_mut() {
         state = next(state);
         *byte = (state / 65_536 % 256) as u8;
     }
-    Ok(bytes)
 }
 
 // A congruential generator modulo 2^32.

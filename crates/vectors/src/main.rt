@@ -25,19 +25,24 @@ use streams::Streams;
 
 const MAX_RECORDS: u32 = 8_192;
 
+// The largest body is below 64 KiB.
+const BODY_SPACE: usize = 65_536;
+
+// All memory is taken before the first record is read, so that no record can fail for want of it.
 fn main(rt: HostRuntime) -> io::Result<()> {
     let mut streams = Streams::standard(&rt)?;
     let mut state = State::new(rt.alloc())?;
-    run_records(&mut streams, &mut state)?;
+    let mut space = vec![in rt.alloc(); 0u8; BODY_SPACE]?;
+    run_records(&mut streams, &mut state, &mut space)?;
     streams.flush()
 }
 
-fn run_records(streams: &mut Streams, state: &mut State) -> io::Result<()> {
+fn run_records(streams: &mut Streams, state: &mut State, space: &mut [u8]) -> io::Result<()> {
     for _ in 0..MAX_RECORDS {
-        let Some(body) = streams.next_body()? else {
+        let Some(body) = streams.next_body(space)? else {
             break;
         };
-        run(streams, state, Body::new(&body))?;
+        run(streams, state, Body::new(body))?;
         streams.print_text()?;
     }
     Ok(())
@@ -57,7 +62,14 @@ fn run(streams: &mut Streams, state: &mut State, mut body: Body) -> io::Result<(
         Request::Plain => views::make_plain(streams, view, body),
         Request::Protected => views::make_protected(streams, view, body),
         Request::MadeUp => views::make_up(streams, view, body),
-        Request::Access(access) => accesses::run(streams, &mut state.image, view, access, body),
+        Request::Access(access) => accesses::run(
+            streams,
+            &mut state.image,
+            &mut state.buffer,
+            view,
+            access,
+            body,
+        ),
         Request::Extent(extent) => extents::run(streams, view, extent, body),
         Request::Key => ciphers::run_key(streams, body),
         Request::Block => ciphers::run_block(streams, body),

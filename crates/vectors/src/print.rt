@@ -42,13 +42,18 @@ impl<'a> Display for Numbers<'a> {
     }
 }
 
-// Bytes in their order.
+// Bytes in their order, eight at a time.
 #[derive(Clone, Copy)]
 pub struct Hex<'a>(pub &'a [u8]);
 
 impl<'a> Display for Hex<'a> {
     fn fmt<W: fmt::Write>(&self, f: &mut fmt::Formatter<W>) -> fmt::Result {
-        for byte in self.0 {
+        let (eights, rest) = self.0.as_chunks::<8>();
+        for eight in eights {
+            let number = u64::from_be_bytes(*eight);
+            write!(f, "{number:016x}")?;
+        }
+        for byte in rest {
             write!(f, "{byte:02x}")?;
         }
         Ok(())
