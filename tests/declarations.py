@@ -18,7 +18,7 @@ DECLARED = {
     RATTLE: r'#\[unsafe\(no_mangle\)\]\npub extern "C" fn \w+\([^)]*\)[^\n]*',
     HEADER: r'\n(?:uint\d+_t|void) ondristela_\w+\([^)]*\);|\nstruct \w+ \{[^}]*\n\};',
     RUST: r'\n +pub fn [^\n]*;|\npub fn \w+\([^)]*\)[^\n]*|\npub type [^\n]*|library::\w+\([^;}]*\)',
-    NUMBERS: r'\n(?:pub )?const (?:LAYOUT|VIEW)_SIZE[^\n]*|\n {8}layout\.\w+,|\n +numbers\[\w*\.\.[^\n]*;',
+    NUMBERS: r'\n(?:pub )?const [^\n]*|\n {8}layout\.\w+,|\n +let \[[^\n]*;|\n +numbers\[\w*\.\.[^\n]*;',
     KEYS: r'\n +\*range = [^\n]*',
     LAYOUT: r'\npub struct Layout \{[^}]*\n\}',
 }
@@ -59,6 +59,7 @@ EDITS = {
         ('constant changed', r'\d+(?=;)', r'1\g<0>'),
         ('index changed', r'(?<=numbers\[)\w+', r'\g<0>9'),
         ('another number given', r'layout\.\w+|\b(?:protected|first|end)\b|u64::from\([^)]*\)', 'another'),
+        ('numbers exchanged', r'(?<=[\[ ])(\w+), (\w+)(?=[,\]])', r'\2, \1'),
     ],
     KEYS: ALL + [('numbers exchanged', r'\[([^,]+), ([^\]]+)\]', r'[\2, \1]')],
     LAYOUT: ALL + [('field renamed', r'\w+(?=: )', r'\g<0>_again')],

@@ -32,13 +32,16 @@ WRITERS = {
     'ondristela_range': (KEYS, 'give_keys'),
 }
 
-# The numbers that have another name in a struct than where they are stored.
+# The numbers that have another name in a struct than where they are stored; those of a protection by their places.
 RENAMED = {
-    'protected': 'protected_range',
-    'first': 'protected_first',
-    'end': 'protected_end',
+    'range[0]': 'protected_range',
+    'range[1]': 'protected_first',
+    'range[2]': 'protected_end',
     'KEYS_SIZE': 'size',
 }
+
+# The constants that say where a view has its own numbers, and what a struct calls these.
+PLACES = {'PROTECTED': 'protected_range', 'FIRST': 'protected_first', 'END': 'protected_end', 'LOCK': 'locked'}
 
 C_TYPES = {'uint8_t': 'u8', 'uint16_t': 'u16', 'uint32_t': 'u32', 'uint64_t': 'u64', 'size_t': 'usize'}
 
@@ -146,11 +149,13 @@ def indexed(path, text, function):
     where, code = body(path, text, function)
     array = re.search(r'^ +\*\w+ = \[(.*)\];$|^    \[$(.*?)^    \]$', code, re.M | re.S)
     found = dict(enumerate(items(array[1] or array[2]))) if array else {}
+    taken = re.search(r'^ +let \[(.*)\] = protection_numbers\(', code, re.M)
+    ranges = {name: f'range[{index}]' for index, name in enumerate(items(taken[1]))} if taken else {}
     for start, other, part in re.findall(r'^ +numbers\[(\w*)\.\.\w*\]\.copy_from_slice\(&(?:(\w+)\([^)]*\)|\[(.*)\])\);$', code, re.M):
         first = value(start or '0', text)
         given = indexed(path, text, other)[1] if other else dict(enumerate(items(part)))
         if first.isdigit():
-            found |= {int(first) + index: expression for index, expression in given.items()}
+            found |= {int(first) + index: ranges.get(expression, expression) for index, expression in given.items()}
     return where, found
 
 
@@ -322,6 +327,11 @@ def struct_problems(header, numbers, opening, layout):
         if struct.numbers != source.numbers:
             yield (f'{struct.place}: struct {name} has {", ".join(struct.numbers)}, '
                    f'but {WRITERS[name][1]} at {source.place} gives {", ".join(source.numbers) or "no list"}')
+    view = stored(texts, 'ondristela_view')
+    given = {number: str(index) for index, number in enumerate(view.numbers)}
+    for constant, number in PLACES.items():
+        if value(constant, numbers) != given.get(number):
+            yield f'{view.place}: view_numbers does not give {number} at {constant}, where it is read'
     fields, source = layout_fields(layout), stored(texts, 'ondristela_layout')
     if sorted(fields.numbers) != sorted(source.numbers):
         yield f'{source.place}: layout_numbers does not give each field of Layout, at {fields.place}, once'
