@@ -22,7 +22,7 @@ pub fn store(bytes: &mut [u8], at: usize, block: [[u8; 4]; 4])
     requires { at + 16 ≤ length bytes.old }
     ensures { bytes.new ≡ overlay at (bytes_of block) bytes.old }
 {
-    bytes[at..at + 16].copy_from_slice(&flat(block));
+    copy::lay(&flat(block), bytes, at);
 }
 
 fn flat(block: [[u8; 4]; 4]) -> [u8; 16]
