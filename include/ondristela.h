@@ -86,7 +86,7 @@ extern "C" {
 /* The version of this header and of the library that is installed with it. */
 
 /* version: written by tools/version.py from rust/Cargo.toml */
-#define ONDRISTELA_VERSION "0.1.4"
+#define ONDRISTELA_VERSION "0.1.5"
 /* end of version */
 
 /* The answer of a call that is accepted. */
